@@ -1,0 +1,135 @@
+-- Bits and bytes: reading bytes 0 and 1 as bits and writing them again. Assumes nothing.
+use mathlib.Core.Path.{_≡_, refl, sym, ap, ap₂, _∙_}
+use mathlib.Core.Bool.{Bool, true, false, cond, false≢true}
+use mathlib.Core.List.{List, [], _∷_, _++_, map}
+use Prim.Native.Nat.{ℕ, zero, suc, _+_, _*_, _%_, _<_, _≤_}
+use native.Mathlib.Omega.{arith}
+use native.Mathlib.Nat.{not-suc-le-zero}
+use native.Mathlib.Numerals.{add-one}
+use lib.Dec.{eqb, ltb}
+use lib.ListN.{length, getD, drop, drop-of-length-le}
+use lib.Seq.{drop-cons}
+use borrow.Author.Tests.{ltb-true, lt-ltb, le-ltb}
+use Rattle.bits.specs.Bits.{byte, bit, bytes, bits, allBinary, differ}
+
+-- ---- one bit
+pub bit-byte : (b : Bool) → bit (byte b) ≡ b
+bit-byte false = refl
+bit-byte true = refl
+
+pub byte-bit : (x : ℕ) → x < 2 → byte (bit x) ≡ x
+byte-bit zero h = refl
+byte-bit (suc zero) h = refl
+byte-bit (suc (suc x)) h = let z : ⊥ = omega arith in absurd z
+
+-- of any number: its lowest bit
+pub byte-bit-any : (x : ℕ) → byte (bit x) ≡ x % 2
+byte-bit-any x = go (x % 2) (omega arith)
+  where
+    go : (y : ℕ) → y < 2 → byte (eqb y 1) ≡ y
+    go zero h = refl
+    go (suc zero) h = refl
+    go (suc (suc y)) h = let z : ⊥ = omega arith in absurd z
+
+pub bit-above : (a : ℕ) (b : Bool) → bit (a * 2 + byte b) ≡ b
+bit-above a false = let e : (a * 2 + 0) % 2 ≡ 0 = omega arith in ap (λ (x : ℕ). eqb x 1) e
+bit-above a true = let e : (a * 2 + 1) % 2 ≡ 1 = omega arith in ap (λ (x : ℕ). eqb x 1) e
+
+pub byte-below : (b : Bool) → byte b < 2
+byte-below false = omega arith
+byte-below true = omega arith
+
+pub byte-one : (a b : Bool) → byte a ≡ byte b → a ≡ b
+byte-one a b e = sym (bit-byte a) ∙ ap bit e ∙ bit-byte b
+
+pub bit-one : (x y : ℕ) → x < 2 → y < 2 → bit x ≡ bit y → x ≡ y
+bit-one x y hx hy e = sym (byte-bit x hx) ∙ ap byte e ∙ byte-bit y hy
+
+-- ---- lists
+pub bits-bytes : (w : List Bool) → bits (bytes w) ≡ w
+bits-bytes [] = refl
+bits-bytes (b ∷ w) = ap₂ (λ (x : Bool) (l : List Bool). x ∷ l) (bit-byte b) (bits-bytes w)
+
+pub bytes-append : (u w : List Bool) → bytes (u ++ w) ≡ bytes u ++ bytes w
+bytes-append [] w = refl
+bytes-append (b ∷ u) w = ap (λ (l : List ℕ). byte b ∷ l) (bytes-append u w)
+
+pub bits-append : (u w : List ℕ) → bits (u ++ w) ≡ bits u ++ bits w
+bits-append [] w = refl
+bits-append (b ∷ u) w = ap (λ (l : List Bool). bit b ∷ l) (bits-append u w)
+
+-- ---- allBinary
+cond-true : (a b : Bool) → cond a b false ≡ true → (a ≡ true) × (b ≡ true)
+cond-true true b e = (refl, e)
+cond-true false b e = absurd (false≢true e)
+
+pub binary-head : (x : ℕ) (l : List ℕ) → allBinary (x ∷ l) ≡ true → x < 2
+unfolding allBinary
+binary-head x l e = ltb-true x 2 (cond-true (ltb x 2) (allBinary l) e .0)
+
+pub binary-tail : (x : ℕ) (l : List ℕ) → allBinary (x ∷ l) ≡ true → allBinary l ≡ true
+unfolding allBinary
+binary-tail x l e = cond-true (ltb x 2) (allBinary l) e .1
+
+pub binary-cons : (x : ℕ) (l : List ℕ) → x < 2 → allBinary (x ∷ l) ≡ allBinary l
+unfolding allBinary
+binary-cons x l h = rw (lt-ltb x 2 h)
+
+pub not-binary : (x : ℕ) (l : List ℕ) → 1 < x → allBinary (x ∷ l) ≡ false
+unfolding allBinary
+not-binary x l h = rw (le-ltb x 2 h)
+
+pub binary-at : (l : List ℕ) → allBinary l ≡ true → (k : ℕ) → k < length l → getD l k 0 < 2
+binary-at [] e k h = absurd (not-suc-le-zero h)
+binary-at (x ∷ l) e zero h = binary-head x l e
+binary-at (x ∷ l) e (suc k) h = binary-at l (binary-tail x l e) k (omega arith)
+
+pub binary-bytes : (w : List Bool) → allBinary (bytes w) ≡ true
+unfolding allBinary
+binary-bytes [] = refl
+binary-bytes (false ∷ w) = binary-bytes w
+binary-bytes (true ∷ w) = binary-bytes w
+
+pub bytes-bits : (l : List ℕ) → allBinary l ≡ true → bytes (bits l) ≡ l
+bytes-bits [] e = refl
+bytes-bits (x ∷ l) e = ap₂ (λ (y : ℕ) (r : List ℕ). y ∷ r) (byte-bit x (binary-head x l e)) (bytes-bits l (binary-tail x l e))
+
+-- ---- differ
+pub differ-le : (a b : Bool) → differ a b ≤ 1
+differ-le false false = omega arith
+differ-le false true = omega arith
+differ-le true false = omega arith
+differ-le true true = omega arith
+
+pub differ-same : (a : Bool) → differ a a ≡ 0
+differ-same false = refl
+differ-same true = refl
+
+pub differ-other : (a b : Bool) → (a ≡ b → ⊥) → differ a b ≡ 1
+differ-other false false n = absurd (n refl)
+differ-other false true n = refl
+differ-other true false n = refl
+differ-other true true n = absurd (n refl)
+
+-- ---- the loop of `all_binary`: the first k bytes are 0 or 1
+pub record Scanning (s : List ℕ) (k : ℕ) : Type 0 where
+  pub low : k ≤ length s
+  pub rest : allBinary s ≡ allBinary (drop k s)
+
+module _ {s : List ℕ} {k : ℕ} (i : Scanning s k) where
+  at : k < length s → allBinary s ≡ allBinary (getD s k 0 ∷ drop (suc k) s)
+  at h = i .rest ∙ ap allBinary (drop-cons s k 0 h)
+
+  pub scanning-more : k < length s → getD s k 0 ≤ 1 → Scanning s (k + 1)
+  scanning-more h b =
+      record {
+        low = omega arith;
+        rest = at h ∙ binary-cons (getD s k 0) (drop (suc k) s) (omega arith) ∙ ap (λ (n : ℕ). allBinary (drop n s)) (sym (add-one k));
+      }
+
+  pub scanning-stops : k < length s → 1 < getD s k 0 → false ≡ allBinary s
+  scanning-stops h b = sym (at h ∙ not-binary (getD s k 0) (drop (suc k) s) b)
+
+  pub scanning-done : length s ≤ k → true ≡ allBinary s
+  unfolding allBinary
+  scanning-done h = sym (i .rest ∙ ap allBinary (drop-of-length-le s h))

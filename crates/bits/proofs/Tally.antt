@@ -1,0 +1,48 @@
+-- Sums over the places of two lists. Assumes nothing.
+use mathlib.Core.Path.{_≡_, refl, sym, ap, ap₂, _∙_}
+use mathlib.Core.Bool.{Bool}
+use mathlib.Core.List.{List, [], _∷_, _++_}
+use Prim.Native.Nat.{ℕ, suc, _+_, _<_, _≤_}
+use native.Mathlib.Omega.{arith}
+use native.Mathlib.Nat.{zero-add, add-assoc}
+use native.Mathlib.Numerals.{add-one}
+use lib.ListN.{length, getD, drop, drop-of-length-le}
+use lib.Seq.{drop-cons}
+use Rattle.bits.specs.Bits.{tally, bits, bit, disagreements, differ}
+
+module _ {A B : Type 0} (f : A → B → ℕ) where
+  pub tally-nil : (xs : List A) → tally f xs [] ≡ 0
+  unfolding tally
+  tally-nil [] = refl
+  tally-nil (x ∷ xs) = refl
+
+  pub tally-append : (xs zs : List A) (ys : List B) → tally f (xs ++ zs) ys ≡ tally f xs ys + tally f zs (drop (length xs) ys)
+  unfolding tally
+  tally-append [] zs ys = sym (zero-add (tally f zs ys))
+  tally-append (x ∷ xs) zs [] = sym (ap (λ (n : ℕ). 0 + n) (tally-nil zs))
+  tally-append (x ∷ xs) zs (y ∷ ys) = ap (λ (n : ℕ). f x y + n) (tally-append xs zs ys) ∙ sym (add-assoc (f x y) (tally f xs ys) (tally f zs (drop (length xs) ys)))
+
+-- ---- the loop of `count_disagreements`: n places differ in the first k
+pub record Counting (a b : List ℕ) (n k : ℕ) : Type 0 where
+  pub low : k ≤ length a
+  pub few : n ≤ k
+  pub rest : n + disagreements (bits (drop k a)) (bits (drop k b)) ≡ disagreements (bits a) (bits b)
+
+pub counting-none : (a b : List ℕ) → Counting a b 0 0
+counting-none a b = record { low = omega arith; few = omega arith; rest = zero-add (disagreements (bits a) (bits b)) }
+
+module _ {a b : List ℕ} {n k : ℕ} (i : Counting a b n k) where
+  pub counting-more : (m : ℕ) → k < length a → length a ≡ length b → m ≤ 1 → m ≡ differ (bit (getD a k 0)) (bit (getD b k 0)) → Counting a b (n + m) (k + 1)
+  unfolding tally
+  counting-more m h l few e =
+      let t : disagreements (bits (drop k a)) (bits (drop k b)) ≡ differ (bit (getD a k 0)) (bit (getD b k 0)) + disagreements (bits (drop (suc k) a)) (bits (drop (suc k) b)) =
+      ap₂ (λ (u w : List ℕ). disagreements (bits u) (bits w)) (drop-cons a k 0 h) (drop-cons b k 0 (omega arith)) in
+      let s : disagreements (bits (drop (k + 1) a)) (bits (drop (k + 1) b)) ≡ disagreements (bits (drop (suc k) a)) (bits (drop (suc k) b)) =
+      ap (λ (j : ℕ). disagreements (bits (drop j a)) (bits (drop j b))) (add-one k) in
+      record { low = omega arith; few = omega (arith, i .few); rest = omega (arith, i .rest) }
+
+  pub counting-done : length a ≤ k → n ≡ disagreements (bits a) (bits b)
+  unfolding tally
+  counting-done h =
+      let e : disagreements (bits (drop k a)) (bits (drop k b)) ≡ 0 = ap (λ (u : List ℕ). disagreements (bits u) (bits (drop k b))) (drop-of-length-le a h) in
+      omega (arith, i .rest)

@@ -1,0 +1,4 @@
+-- Bits, numbers as bits, and the refusals of document 01: the definitions.
+pub mod Bits
+pub mod Numbers
+pub mod Refusals

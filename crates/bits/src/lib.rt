@@ -1,0 +1,105 @@
+// Bits as bytes 0 and 1, numbers as bits, and the refusals that every crate answers with. The contracts cite specs/.
+ghost use mathlib.Core.Path.{_≡_};
+ghost use mathlib.Core.Bool.{true};
+ghost use Prim.Native.Nat.{_<_, _≤_};
+ghost use lib.ListN.{length};
+ghost use Rattle.bits.specs.Bits.{allBinary, bit, bits, bytes, differ, disagreements};
+ghost use Rattle.bits.specs.Numbers.{packed, unpacked};
+ghost use Rattle.bits.specs.Refusals.{numberOf};
+
+// Why a call is refused. `number` gives document 01's number of each.
+pub enum Refusal {
+    // A lent slice is not of the exact length.
+    Length { expected: usize, actual: usize },
+    // A byte is no bit, or a number is out of its range.
+    Symbol,
+    Crc,
+    InsufficientObservations,
+    Ambiguous,
+    Reserved,
+    Line,
+    State,
+}
+
+// The number that document 01 gives a refusal.
+pub fn number(refusal: Refusal) -> u8
+    ensures { λ r. ⌜ r ≡ numberOf refusal ⌝ }
+{
+    match refusal {
+        Refusal::Length {
+            expected: _,
+            actual: _,
+        } => 1,
+        Refusal::Symbol => 2,
+        Refusal::Crc => 3,
+        Refusal::InsufficientObservations => 4,
+        Refusal::Ambiguous => 5,
+        Refusal::Reserved => 6,
+        Refusal::Line => 7,
+        Refusal::State => 8,
+    }
+}
+
+// A byte as an index.
+pub fn wide(x: u8) -> usize
+    ensures { λ r. ⌜ (r ≡ x) × (r < 256) ⌝ }
+{
+    x as usize
+}
+
+// Whether every byte is 0 or 1.
+pub fn all_binary(s: &[u8]) -> bool
+    ensures { λ r. ⌜ r ≡ allBinary (now (s .entry)) ⌝ }
+{
+    for i in 0..s.len() {
+        if 1 < s[i] {
+            return false;
+        }
+    }
+    true
+}
+
+// The number that bits write, the first highest.
+pub fn pack(s: &[u8]) -> u64
+    requires { ⌜ (length (now s) ≤ 64) × (allBinary (now s) ≡ true) ⌝ }
+    ensures { λ r. ⌜ r ≡ packed (bits (now (s .entry))) ⌝ }
+{
+    let mut value: u64 = 0;
+    for i in 0..s.len() {
+        value = value * 2 + wide(s[i]) as u64;
+    }
+    value
+}
+
+// Writes the lowest bits of a number, as many as there is room for, the highest first.
+pub fn unpack(value: u64, s: &mut [u8])
+    ensures { λ _. ⌜ now (s .exit) ≡ bytes (unpacked (length (now (s .entry))) value) ⌝ }
+{
+    let mut rest = value;
+    let mut i = s.len();
+    while 0 < i {
+        i -= 1;
+        s[i] = (rest % 2) as u8;
+        rest /= 2;
+    }
+}
+
+// 1 where two bits differ, 0 where they are equal.
+pub fn differs(a: u8, b: u8) -> u8
+    requires { ⌜ (a < 2) × (b < 2) ⌝ }
+    ensures { λ r. ⌜ (r ≡ differ (bit a) (bit b)) × (r ≤ 1) ⌝ }
+{
+    if a == b { 0 } else { 1 }
+}
+
+// In how many places two lists of bits differ.
+pub fn count_disagreements(a: &[u8], b: &[u8]) -> usize
+    requires { ⌜ (length (now a) ≡ length (now b)) × (allBinary (now a) ≡ true) × (allBinary (now b) ≡ true) ⌝ }
+    ensures { λ r. ⌜ r ≡ disagreements (bits (now (a .entry))) (bits (now (b .entry))) ⌝ }
+{
+    let mut n = 0;
+    for i in 0..a.len() {
+        n += wide(differs(a[i], b[i]));
+    }
+    n
+}
