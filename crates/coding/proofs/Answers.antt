@@ -1,0 +1,51 @@
+-- What `checksum` and `checksum7` answer, from what their calls ensure. Assumes nothing.
+use mathlib.Core.Path.{_≡_, refl, sym, ap, _∙_}
+use mathlib.Core.Bool.{Bool, true, false, cond, not}
+use mathlib.Core.List.{List, _++_}
+use Prim.Native.Nat.{ℕ}
+use native.Mathlib.Omega.{arith}
+use Rattle.bits.specs.Bits.{bits, bytes, allBinary}
+use Rattle.bits.specs.Numbers.{packed, unpacked}
+use Rattle.bits.specs.Refusals.{accepted, refused}
+use Rattle.bits.specs.declared.Refusal.the-variants.{Symbol}
+use Rattle.bits.proofs.Binary.{bits-bytes, binary-bytes}
+use Rattle.coding.specs.declared.checksum.CrcMode.{CrcMode}
+use Rattle.coding.specs.Checksums.{checkBits, ccitt, complemented, checksumOf, checksum7Of, ofBits}
+use Rattle.coding.proofs.Shifting.{Remains, run-once, run-twice}
+
+-- ---- the test of the bytes
+not-one : (b : Bool) → not b ≡ false → b ≡ true
+not-one true h = refl
+not-one false h = sym h
+
+not-zero : (b : Bool) → not b ≡ true → b ≡ false
+not-zero false h = refl
+not-zero true h = sym h
+
+module _ (l : List ℕ) {a : Bool} (e : a ≡ allBinary l) where
+  pub are-bits : not a ≡ false → allBinary l ≡ true
+  are-bits h = sym e ∙ not-one a h
+
+  pub of-bits : {x y : ℕ} → not a ≡ false → x ≡ y → accepted x ≡ ofBits l y
+  of-bits {x} {y} h d = ap accepted d ∙ sym (ap (λ (b : Bool). cond b (accepted y) (refused Symbol)) (are-bits h))
+
+  pub not-bits : (x : ℕ) → not a ≡ true → refused Symbol ≡ ofBits l x
+  not-bits x h = sym (ap (λ (b : Bool). cond b (accepted x) (refused Symbol)) (sym e ∙ not-zero a h))
+
+-- ---- the values
+module _ (w : List ℕ) (dvcc : ℕ) (colour : w ≡ bytes (unpacked 8 dvcc)) where
+  pub colour-binary : allBinary w ≡ true
+  colour-binary = ap allBinary colour ∙ binary-bytes (unpacked 8 dvcc)
+
+  pub value16 : (l : List ℕ) (mode : CrcMode) {x y r : ℕ} → Remains 32768 4129 0 (bits w) x → Remains 32768 4129 x (bits l) y
+      → r ≡ complemented mode y → r ≡ checksumOf (bits l) dvcc mode
+  unfolding checksumOf unpacked
+  value16 l mode e f h =
+      h
+      ∙ ap (complemented mode)
+      (run-twice 16 refl (omega arith) (bits w) (bits l) e f
+      ∙ ap (λ (u : List Bool). packed (checkBits ccitt (u ++ bits l))) (ap bits colour ∙ bits-bytes (unpacked 8 dvcc)))
+
+pub value7 : (l : List ℕ) {r : ℕ} → Remains 64 55 0 (bits l) r → r ≡ checksum7Of (bits l)
+unfolding checksum7Of unpacked
+value7 l e = run-once 7 refl (omega arith) (bits l) e

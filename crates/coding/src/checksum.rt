@@ -1,0 +1,96 @@
+// The 16-bit checksum of DCCH, FACCH and SACCH, and the 7-bit one of the speech frames.
+use bits::Refusal;
+use bits::all_binary;
+use bits::unpack;
+ghost use mathlib.Core.Path.{_≡_};
+ghost use mathlib.Core.Bool.{true};
+ghost use Prim.Native.Nat.{ℕ, _<_, _≤_};
+ghost use Rattle.bits.specs.Bits.{allBinary, bit, bits};
+ghost use Rattle.bits.specs.Numbers.{packed, unpacked};
+ghost use Rattle.coding.specs.Checksums.{answerOf, checksum7Of, checksumOf, complemented, ofBits};
+ghost use Rattle.coding.specs.Feedback.{Sized, registerAfter, stepped};
+
+// The weight of the highest bit of a register of 16 bits.
+const TOP: u16 = 32768;
+
+// The weight of the highest bit of a register of seven.
+const TOP7: u16 = 64;
+
+// x^16 + x^12 + x^5 + 1, the coefficients below the highest.
+const CCITT: u16 = 0x1021;
+
+// x^7 + x^5 + x^4 + x^2 + x + 1, the coefficients below the highest.
+const SPEECH: u16 = 0x37;
+
+// Whether the checksum is sent as it is or complemented (F-BCCH).
+pub enum CrcMode {
+    Broadcast,
+    Addressed,
+}
+
+pub enum Checked {
+    Value(u16),
+    Refused(Refusal),
+}
+
+// One bit into a register whose highest bit has the weight `top`. The feedback is the bit that falls out against the one that comes in.
+fn shifted_in(register: u16, input: u8, top: u16, polynomial: u16) -> u16
+    requires { ⌜ (0 < top) × (top ≤ 32768) × (input < 2) ⌝ }
+    ensures { λ r. ⌜ ((n : ℕ) → Sized n top polynomial register → r ≡ packed (stepped (unpacked n polynomial) (unpacked n register) (bit input))) ⌝ }
+{
+    let shifted = register % top * 2;
+    let incoming = input as u16;
+    if register / top == incoming {
+        shifted
+    } else {
+        shifted ^ polynomial
+    }
+}
+
+// Bits into a register, one after the other: the remainder of a division that the register's value starts.
+fn run(register: u16, s: &[u8], top: u16, polynomial: u16) -> u16
+    requires { ⌜ (0 < top) × (top ≤ 32768) × (allBinary (now s) ≡ true) ⌝ }
+    ensures { λ r. ⌜ ((n : ℕ) → Sized n top polynomial register → r ≡ registerAfter n polynomial register (bits (now (s .entry)))) ⌝ }
+{
+    let mut x = register;
+    for i in 0..s.len() {
+        x = shifted_in(x, s[i], top, polynomial);
+    }
+    x
+}
+
+// A checksum as it is sent.
+fn sent(register: u16, mode: CrcMode) -> u16
+    ensures { λ r. ⌜ r ≡ complemented mode register ⌝ }
+{
+    match mode {
+        CrcMode::Broadcast => 65535 - register,
+        CrcMode::Addressed => register,
+    }
+}
+
+// The checksum of information of any length under a colour code.
+pub fn checksum(information: &[u8], dvcc: u8, mode: CrcMode) -> Checked
+    ensures { λ r. ⌜ answerOf r ≡ ofBits (now (information .entry)) (checksumOf (bits (now (information .entry))) dvcc mode) ⌝ }
+{
+    if !all_binary(information) {
+        return Checked::Refused(Refusal::Symbol);
+    }
+    let mut colour = [0u8; 8];
+    unpack(dvcc as u64, &mut colour);
+    let start = run(0, &colour, TOP, CCITT);
+    let register = run(start, information, TOP, CCITT);
+    let value = sent(register, mode);
+    Checked::Value(value)
+}
+
+// The checksum of a speech frame's information, of any length.
+pub fn checksum7(information: &[u8]) -> Checked
+    ensures { λ r. ⌜ answerOf r ≡ ofBits (now (information .entry)) (checksum7Of (bits (now (information .entry)))) ⌝ }
+{
+    if !all_binary(information) {
+        return Checked::Refused(Refusal::Symbol);
+    }
+    let remainder = run(0, information, TOP7, SPEECH);
+    Checked::Value(remainder)
+}

@@ -1,0 +1,4 @@
+-- The laws.
+pub mod Branches
+pub mod Weights
+pub mod Searched

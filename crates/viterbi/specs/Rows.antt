@@ -1,0 +1,40 @@
+-- The rows of branch metrics of the engine, by place: the state has its newest input lowest.
+use mathlib.Core.Path.{_≡_}
+use mathlib.Core.Bool.{Bool}
+use mathlib.Core.List.{List, []}
+use Prim.Native.Nat.{ℕ, _+_, _*_, _/_, _%_, _<_}
+use lib.Bits.{bitAnd}
+use lib.Count.{ones}
+use lib.ListN.{getD}
+use Rattle.bits.specs.Bits.{bit, byte, differ}
+
+-- the register of a place: the state with the input below it
+abbrev pub registerAt : ℕ → ℕ
+registerAt slot = (slot % 16 + slot / 32 * 16) * 2 + slot / 16 % 2
+
+-- an output bit of a place
+unfoldable pub outputAt : ℕ → ℕ → Bool
+outputAt taps slot = bit (ones (bitAnd (registerAt slot) taps))
+
+-- the disagreements of a place's two output bits with a received pair
+abbrev pub distanceAt : ℕ → Bool → Bool → ℕ
+distanceAt slot first second = differ (outputAt 0b101011 slot) first + differ (outputAt 0b111101 slot) second
+
+-- the first k places of a list hold the output bits of a generator
+abbrev pub OutputsTo : ℕ → List ℕ → ℕ → Type 0
+OutputsTo taps l k = (slot : ℕ) → slot < k → getD l slot 0 ≡ byte (outputAt taps slot)
+
+-- the first k places of a row hold the distances of a pair
+abbrev pub DistancesTo : Bool → Bool → List ℕ → ℕ → Type 0
+DistancesTo first second row k = (slot : ℕ) → slot < k → getD row slot 0 ≡ distanceAt slot first second
+
+-- the first k rows are those of their pairs, the first bit worth two
+abbrev pub PairsTo : List (List ℕ) → ℕ → Type 0
+PairsTo rows k = (i : ℕ) → i < k → DistancesTo (bit (i / 2)) (bit (i % 2)) (getD rows i []) 64
+
+-- the number of the pair that a step receives
+abbrev pub pairOf : List ℕ → ℕ → ℕ
+pairOf coded k = getD coded (k * 2) 0 * 2 + getD coded (k * 2 + 1) 0
+
+abbrev pub SymbolsTo : List ℕ → List ℕ → ℕ → Type 0
+SymbolsTo coded symbols n = (k : ℕ) → k < n → getD symbols k 0 ≡ pairOf coded k
