@@ -14,6 +14,27 @@ numberOf Reserved = 6
 numberOf Line = 7
 numberOf State = 8
 
+-- the lengths that Length carries, expected and actual; zero elsewhere
+abbrev pub expectedOf : Refusal → ℕ
+expectedOf (Length expected actual) = expected
+expectedOf Symbol = 0
+expectedOf Crc = 0
+expectedOf InsufficientObservations = 0
+expectedOf Ambiguous = 0
+expectedOf Reserved = 0
+expectedOf Line = 0
+expectedOf State = 0
+
+abbrev pub actualOf : Refusal → ℕ
+actualOf (Length expected actual) = actual
+actualOf Symbol = 0
+actualOf Crc = 0
+actualOf InsufficientObservations = 0
+actualOf Ambiguous = 0
+actualOf Reserved = 0
+actualOf Line = 0
+actualOf State = 0
+
 -- What a call answers: a result; Pending; Rejected, where a receiver has moved all the same; or a refusal, where nothing has.
 -- Each answer enum of a crate has one function into this.
 pub data Answer (A : Type 0) : Type 0 where

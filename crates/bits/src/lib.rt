@@ -5,7 +5,7 @@ ghost use Prim.Native.Nat.{_<_, _≤_};
 ghost use lib.ListN.{length};
 ghost use Rattle.bits.specs.Bits.{allBinary, bit, bits, bytes, differ, disagreements};
 ghost use Rattle.bits.specs.Numbers.{packed, unpacked};
-ghost use Rattle.bits.specs.Refusals.{numberOf};
+ghost use Rattle.bits.specs.Refusals.{actualOf, expectedOf, numberOf};
 
 // Why a call is refused. `number` gives document 01's number of each.
 pub enum Refusal {
@@ -37,6 +37,44 @@ pub fn number(refusal: Refusal) -> u8
         Refusal::Reserved => 6,
         Refusal::Line => 7,
         Refusal::State => 8,
+    }
+}
+
+// The length that a Length expected; 0 of any other refusal.
+pub fn expected(refusal: Refusal) -> usize
+    ensures { λ r. ⌜ r ≡ expectedOf refusal ⌝ }
+{
+    match refusal {
+        Refusal::Length {
+            expected,
+            actual: _,
+        } => expected,
+        Refusal::Symbol => 0,
+        Refusal::Crc => 0,
+        Refusal::InsufficientObservations => 0,
+        Refusal::Ambiguous => 0,
+        Refusal::Reserved => 0,
+        Refusal::Line => 0,
+        Refusal::State => 0,
+    }
+}
+
+// The length that a Length met; 0 of any other refusal.
+pub fn actual(refusal: Refusal) -> usize
+    ensures { λ r. ⌜ r ≡ actualOf refusal ⌝ }
+{
+    match refusal {
+        Refusal::Length {
+            expected: _,
+            actual,
+        } => actual,
+        Refusal::Symbol => 0,
+        Refusal::Crc => 0,
+        Refusal::InsufficientObservations => 0,
+        Refusal::Ambiguous => 0,
+        Refusal::Reserved => 0,
+        Refusal::Line => 0,
+        Refusal::State => 0,
     }
 }
 

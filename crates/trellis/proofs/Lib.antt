@@ -9,6 +9,7 @@ pub mod FixedStart
 pub mod FreeStart
 pub mod Renumber
 pub mod Embed
+pub mod Doubles
 pub mod Select
 pub mod Filled
 pub mod Running

@@ -6,6 +6,7 @@ use mathlib.Core.Path.{_≡_}
 use Prim.Native.Nat.{ℕ, zero, suc, _+_, _≤_}
 use lib.Dec.{ltb, eqb, leb}
 use lib.ListN.{length}
+use lib.Ieee.{Float, binary64, add, lt}
 use Rattle.trellis.specs.Numbering.{Numbering}
 
 -- costs: a sum and an order
@@ -15,6 +16,9 @@ pub record Costs (C : Type 0) : Type 0 where
 
 abbrev pub wholes : Costs ℕ
 wholes = record { plus = λ a b. a + b; less = ltb }
+
+abbrev pub doubles : Costs Float
+doubles = record { plus = add binary64; less = lt }
 
 -- branch k s b: the branch metric of the step k from the state s with the input b. start s: the metric of starting in s.
 pub record Trellis (C : Type 0) : Type 0 where

@@ -1,0 +1,18 @@
+-- `bts136::bts136_checksum7` meets its contract. Assumes nothing.
+use mathlib.Core.Path.{ap, _∙_}
+use Rattle.bts136.specs.Flat.{flatChecksum}
+use borrow.Author.Needs.{needs}
+use Rattle.bts136.proofs.bts136_checksum7.Statement.{statement}
+use Rattle.bts136.proofs.bts136_checksum7.Tie as tie
+
+checksum7-requires : tie.Need-checksum7-requires
+checksum7-requires c κs = search needs
+
+flat-checksum-requires : tie.Need-flat-checksum-requires
+flat-checksum-requires c κs = search needs
+
+returns : tie.Need-returns
+returns c = c .flat-checksum .ensures ∙ ap flatChecksum (c .before .checksum7 .ensures)
+
+pub bts136-checksum7-spec : {M : Type 1} → statement M
+bts136-checksum7-spec = tie.close (tie.spec checksum7-requires flat-checksum-requires returns)

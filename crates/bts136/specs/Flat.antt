@@ -1,0 +1,63 @@
+-- What the flat functions answer: a number of document 01 and zeros, or 0 and the result.
+use mathlib.Core.Path.{_≡_}
+use mathlib.Core.Bool.{Bool, true, false, cond}
+use mathlib.Core.List.{List, [], _∷_}
+use Prim.Native.Nat.{ℕ, _-_, _/_, _%_, _<_, _≤_}
+use lib.Dec.{eqb, ltb}
+use lib.ListN.{length, take, drop, replicate}
+use Rattle.bits.specs.Bits.{bit, allBinary}
+use Rattle.bits.specs.Refusals.{Answer, accepted, pending, rejected, refused, numberOf, expectedOf, actualOf}
+use Rattle.bits.specs.declared.Refusal.{Refusal}
+use Rattle.bits.specs.declared.Refusal.the-variants.{Length, Symbol, State}
+use Rattle.coding.specs.Registers.{Stepped}
+use Rattle.coding.specs.declared.checksum.CrcMode.{CrcMode}
+use Rattle.coding.specs.declared.checksum.CrcMode.the-variants.{Broadcast, Addressed}
+use Rattle.trellis.specs.declared.Outcome.{Outcome}
+use Rattle.bts136.specs.declared.Step.{Step}
+use Rattle.bts136.specs.declared.Checksum.{Checksum}
+use Rattle.bts136.specs.declared.Search.{Search}
+use Rattle.bts136.specs.declared.Lent.{Lent}
+use Rattle.bts136.specs.declared.Lent.the-variants.{Fine, Refused}
+
+-- ---- one step
+abbrev pub noStep : Refusal → Step
+noStep why = record { refusal = numberOf why; next = 0; output = replicate 4 0 }
+
+-- a step: the output bits first, then zeros
+pub record Taken (code : List (List Bool)) (memory : ℕ → List Bool) (state input : ℕ) (r : Step) : Type 0 where
+  pub none : r .refusal ≡ 0
+  pub step : Stepped code memory state (bit input) (r .next) (take (length code) (r .output))
+  pub rest : drop (length code) (r .output) ≡ replicate (4 - length code) 0
+
+-- State where the state is above 31, else Symbol where the input is no bit, else the step
+pub record StepAnswer (code : List (List Bool)) (memory : ℕ → List Bool) (state input : ℕ) (r : Step) : Type 0 where
+  pub no-state : 31 < state → r ≡ noStep State
+  pub no-symbol : state ≤ 31 → 1 < input → r ≡ noStep Symbol
+  pub taken : state ≤ 31 → input ≤ 1 → Taken code memory state input r
+
+-- ---- a checksum, which is never pending or rejected
+abbrev pub flatChecksum : Answer ℕ → Checksum
+flatChecksum (accepted x) = record { refusal = 0; value = x }
+flatChecksum pending = record { refusal = 0; value = 0 }
+flatChecksum (rejected why) = record { refusal = numberOf why; value = 0 }
+flatChecksum (refused why) = record { refusal = numberOf why; value = 0 }
+
+abbrev pub modeOf : Bool → CrcMode
+modeOf broadcast = cond broadcast Broadcast Addressed
+
+-- ---- a search
+-- Length where what was received is no number of pairs from 5 to 130, or the word has not a bit for each pair; then Symbol
+unfoldable pub lentOf : List ℕ → ℕ → Lent
+lentOf coded steps =
+    cond (ltb (length coded) 10) (Refused (Length 260 (length coded)))
+    (cond (ltb 260 (length coded)) (Refused (Length 260 (length coded)))
+    (cond (eqb (length coded % 2) 1) (Refused (Length 260 (length coded)))
+    (cond (eqb steps (length coded / 2)) (cond (allBinary coded) Fine (Refused Symbol)) (Refused (Length (length coded / 2) steps)))))
+
+abbrev pub noSearch : Refusal → Search
+noSearch why = record { refusal = numberOf why; expected = expectedOf why; actual = actualOf why; metric = 0; tie = false }
+
+-- the answer of a search over n steps, of which Finds says what it finds; a refused call writes nothing
+pub record SearchAnswer (Finds : List ℕ → Outcome → Type 0) (coded word₀ word : List ℕ) (r : Search) : Type 0 where
+  pub no-search : (why : Refusal) → lentOf coded (length word₀) ≡ Refused why → (r ≡ noSearch why) × (word ≡ word₀)
+  pub searched : lentOf coded (length word₀) ≡ Fine → (r .refusal ≡ 0) × (r .expected ≡ 0) × (r .actual ≡ 0) × Finds word (record { metric = r .metric; tie = r .tie })

@@ -1,0 +1,2 @@
+-- The flat functions for Rust and C: what each answers.
+pub mod Flat

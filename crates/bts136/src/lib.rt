@@ -1,0 +1,237 @@
+// The static library for Rust and C: flat functions over the crates below. Each answers a number of document 01, or 0 with its result.
+use bits::Refusal;
+use bits::actual;
+use bits::all_binary;
+use bits::expected;
+use bits::number;
+use coding::checksum::Checked;
+use coding::checksum::CrcMode;
+use trellis::Outcome;
+ghost use mathlib.Core.Path.{_≡_};
+ghost use mathlib.Core.List.{List};
+ghost use Prim.Native.Nat.{ℕ, _*_, _<_, _≤_};
+ghost use lib.ListN.{length};
+ghost use Rattle.bits.specs.Bits.{bits};
+ghost use Rattle.coding.specs.Checksums.{answerOf, checksum7Of, checksumOf, ofBits};
+ghost use Rattle.coding.specs.Codes.{acelp, dcch, facch};
+ghost use Rattle.coding.specs.Registers.{memoryHigh, memoryLow};
+ghost use Rattle.trellis.specs.Search.{Found, FoundFirst};
+ghost use Rattle.trellis.specs.Words.{OfLength};
+ghost use Rattle.viterbi.specs.Hard.{Terminated, freeWeight, weight};
+ghost use Rattle.bts136.specs.Flat.{SearchAnswer, StepAnswer, flatChecksum, lentOf, modeOf, noSearch, noStep};
+
+#[repr(C)]
+pub struct Step {
+    pub refusal: u8,
+    pub next: u8,
+    pub output: [u8; 4],
+}
+
+#[repr(C)]
+pub struct Checksum {
+    pub refusal: u8,
+    pub value: u16,
+}
+
+// expected and actual are those of a refusal for length.
+#[repr(C)]
+pub struct Search {
+    pub refusal: u8,
+    pub expected: usize,
+    pub actual: usize,
+    pub metric: u16,
+    pub tie: bool,
+}
+
+fn no_step(why: Refusal) -> Step
+    ensures { λ r. ⌜ r ≡ noStep why ⌝ }
+{
+    Step {
+        refusal: number(why),
+        next: 0,
+        output: [0; 4],
+    }
+}
+
+// One step of the code of DCCH, SACCH and VSELP.
+#[no_mangle]
+pub extern "C" fn bts136_dcch_transition(state: u8, input: u8) -> Step
+    ensures { λ r. ⌜ StepAnswer dcch memoryHigh state input r ⌝ }
+{
+    if 31 < state {
+        return no_step(Refusal::State);
+    }
+    if 1 < input {
+        return no_step(Refusal::Symbol);
+    }
+    let step = coding::dcch::transition(state, input);
+    let output = step.output;
+    Step {
+        refusal: 0,
+        next: step.next,
+        output: [output[0], output[1], 0, 0],
+    }
+}
+
+// One step of the code of FACCH.
+#[no_mangle]
+pub extern "C" fn bts136_facch_transition(state: u8, input: u8) -> Step
+    ensures { λ r. ⌜ StepAnswer facch memoryHigh state input r ⌝ }
+{
+    if 31 < state {
+        return no_step(Refusal::State);
+    }
+    if 1 < input {
+        return no_step(Refusal::Symbol);
+    }
+    let step = coding::facch::transition(state, input);
+    let output = step.output;
+    Step {
+        refusal: 0,
+        next: step.next,
+        output,
+    }
+}
+
+// One step of the code of ACELP CC1.
+#[no_mangle]
+pub extern "C" fn bts136_acelp_transition(state: u8, input: u8) -> Step
+    ensures { λ r. ⌜ StepAnswer acelp memoryLow state input r ⌝ }
+{
+    if 31 < state {
+        return no_step(Refusal::State);
+    }
+    if 1 < input {
+        return no_step(Refusal::Symbol);
+    }
+    let step = coding::acelp::transition(state, input);
+    let output = step.output;
+    Step {
+        refusal: 0,
+        next: step.next,
+        output: [output[0], output[1], 0, 0],
+    }
+}
+
+fn mode_of(broadcast: bool) -> CrcMode
+    ensures { λ r. ⌜ r ≡ modeOf broadcast ⌝ }
+{
+    if broadcast {
+        CrcMode::Broadcast
+    } else {
+        CrcMode::Addressed
+    }
+}
+
+fn flat_checksum(checked: Checked) -> Checksum
+    ensures { λ r. ⌜ r ≡ flatChecksum (answerOf checked) ⌝ }
+{
+    match checked {
+        Checked::Value(value) => Checksum { refusal: 0, value },
+        Checked::Refused(why) => Checksum {
+            refusal: number(why),
+            value: 0,
+        },
+    }
+}
+
+// The 16-bit checksum of information under a colour code, complemented for broadcast.
+#[no_mangle]
+pub extern "C" fn bts136_checksum(information: &[u8], dvcc: u8, broadcast: bool) -> Checksum
+    ensures { λ r. ⌜ r ≡ flatChecksum (ofBits (now (information .entry)) (checksumOf (bits (now (information .entry))) dvcc (modeOf broadcast))) ⌝ }
+{
+    flat_checksum(coding::checksum::checksum(information, dvcc, mode_of(broadcast)))
+}
+
+// The 7-bit checksum of a speech frame's information.
+#[no_mangle]
+pub extern "C" fn bts136_checksum7(information: &[u8]) -> Checksum
+    ensures { λ r. ⌜ r ≡ flatChecksum (ofBits (now (information .entry)) (checksum7Of (bits (now (information .entry))))) ⌝ }
+{
+    flat_checksum(coding::checksum::checksum7(information))
+}
+
+pub enum Lent {
+    Fine,
+    Refused(Refusal),
+}
+
+// Whether a received block can be searched into a word of so many bits.
+fn refusal_of(coded: &[u8], steps: usize) -> Lent
+    ensures { λ r. ⌜ r ≡ lentOf (now (coded .entry)) steps ⌝ }
+{
+    let actual = coded.len();
+    if actual < 10 {
+        return wrong_length(260, actual);
+    }
+    if 260 < actual {
+        return wrong_length(260, actual);
+    }
+    if actual % 2 == 1 {
+        return wrong_length(260, actual);
+    }
+    if steps != actual / 2 {
+        return wrong_length(actual / 2, steps);
+    }
+    if all_binary(coded) {
+        Lent::Fine
+    } else {
+        Lent::Refused(Refusal::Symbol)
+    }
+}
+
+fn wrong_length(expected: usize, actual: usize) -> Lent
+    ensures { λ r. ⌜ r ≡ Lent.Refused (Refusal.Length expected actual) ⌝ }
+{
+    Lent::Refused(Refusal::Length { expected, actual })
+}
+
+fn no_search(why: Refusal) -> Search
+    ensures { λ r. ⌜ r ≡ noSearch why ⌝ }
+{
+    Search {
+        refusal: number(why),
+        expected: expected(why),
+        actual: actual(why),
+        metric: 0,
+        tie: false,
+    }
+}
+
+// The nearest word that ends in five zeros, from state 0, and its disagreements: the bare search of DCCH.
+#[no_mangle]
+pub extern "C" fn bts136_viterbi(coded: &[u8], word: &mut [u8]) -> Search
+    ensures { λ r. ⌜ SearchAnswer (FoundFirst (Terminated (length (now (word .entry)))) (weight (bits (now (coded .entry))))) (now (coded .entry)) (now (word .entry)) (now (word .exit)) r ⌝ }
+{
+    let ready = refusal_of(coded, word.len());
+    if let Lent::Refused(why) = ready {
+        return no_search(why);
+    }
+    let found = viterbi::terminated(coded, word);
+    Search {
+        refusal: 0,
+        expected: 0,
+        actual: 0,
+        metric: found.metric,
+        tie: found.tie,
+    }
+}
+
+// A nearest word over all 32 starting memories: the bare search of SACCH.
+#[no_mangle]
+pub extern "C" fn bts136_viterbi_free(coded: &[u8], word: &mut [u8]) -> Search
+    ensures { λ r. ⌜ SearchAnswer (Found (OfLength (length (now (word .entry)))) (freeWeight (bits (now (coded .entry))))) (now (coded .entry)) (now (word .entry)) (now (word .exit)) r ⌝ }
+{
+    let ready = refusal_of(coded, word.len());
+    if let Lent::Refused(why) = ready {
+        return no_search(why);
+    }
+    let found = viterbi::free(coded, word);
+    Search {
+        refusal: 0,
+        expected: 0,
+        actual: 0,
+        metric: found.metric,
+        tie: found.tie,
+    }
+}

@@ -1,0 +1,240 @@
+//! Times the port against the Rust and, where it is installed, libosmocore: the same inputs, one
+//! run, samples by turns. The last column is each one's median over the port's. Inputs and buffers
+//! are made before; what the Rust allocates in a call is its own.
+//!
+//! `bench list` prints the names, `bench NAME N` makes N calls of one, for an instruction counter.
+use differential::blocks::{Ends, bytes, code, flip};
+#[cfg(osmocore)]
+use differential::osmo::Osmo;
+use differential::phy::dcch::{CrcMode, probe};
+use differential::phy::{acelp_cc1, sacch};
+use differential::port;
+use differential::prng::Prng;
+use differential::timing::{Contender, times};
+use std::env::args;
+use std::hint::black_box;
+use std::process::exit;
+
+const SEED: u64 = 4242;
+/// Inputs of each case, taken in turn.
+const INPUTS: usize = 64;
+const DVCC: u8 = 0x5a;
+
+struct Case {
+    name: String,
+    /// The port first.
+    contenders: Vec<Contender>,
+}
+
+fn main() {
+    let mut cases = cases();
+    let words: Vec<String> = args().skip(1).collect();
+    let words: Vec<&str> = words.iter().map(String::as_str).collect();
+    match words[..] {
+        [] => compare(&mut cases),
+        ["list"] => list(&cases),
+        [name, count] if count.parse::<usize>().is_ok() => {
+            repeat(&mut cases, name, count.parse().unwrap());
+        }
+        _ => stop("bench, bench list, or bench NAME N"),
+    }
+}
+
+fn stop(message: &str) -> ! {
+    eprintln!("{message}");
+    exit(2)
+}
+
+fn compare(cases: &mut [Case]) {
+    println!(
+        "{:<22} {:<14} {:>10} {:>10} {:>10}",
+        "case", "who", "least ns", "median ns", "over port"
+    );
+    for case in cases {
+        let times = times(&mut case.contenders);
+        for (contender, time) in case.contenders.iter().zip(&times) {
+            println!(
+                "{:<22} {:<14} {:>10.1} {:>10.1} {:>10.2}",
+                case.name,
+                contender.name,
+                time.least,
+                time.median,
+                time.median / times[0].median
+            );
+        }
+    }
+}
+
+fn full_name(case: &str, contender: &Contender) -> String {
+    format!("{case}/{}", contender.name)
+}
+
+fn list(cases: &[Case]) {
+    for case in cases {
+        for contender in &case.contenders {
+            println!("{}", full_name(&case.name, contender));
+        }
+    }
+}
+
+fn repeat(cases: &mut [Case], name: &str, count: usize) {
+    for case in cases {
+        for contender in &mut case.contenders {
+            if full_name(&case.name, contender) == name {
+                return contender.run(count);
+            }
+        }
+    }
+    stop("no case of that name: see bench list")
+}
+
+fn cases() -> Vec<Case> {
+    let mut p = Prng(SEED);
+    let mut cases = vec![steps(), checksum(&mut p), checksum7(&mut p)];
+    let damages = [("clean", Some(0)), ("6-flips", Some(6)), ("random", None)];
+    for (name, flips) in damages {
+        cases.push(search(name, &blocks(&mut p, Ends::Zero, 130, flips)));
+    }
+    for (name, flips) in damages {
+        cases.push(free_search(name, &blocks(&mut p, Ends::Free, 66, flips)));
+    }
+    cases
+}
+
+/// Blocks of coded words with that many wrong bits each, or of random bits.
+fn blocks(p: &mut Prng, ends: Ends, steps: usize, flips: Option<usize>) -> Vec<Vec<bool>> {
+    let mut block = || {
+        let Some(flips) = flips else {
+            return p.bits(2 * steps);
+        };
+        let mut coded = code(ends.start(p), &ends.word(p, steps));
+        flip(p, &mut coded, flips);
+        coded
+    };
+    (0..INPUTS).map(|_| block()).collect()
+}
+
+fn all_bytes(blocks: &[Vec<bool>]) -> Vec<Vec<u8>> {
+    blocks.iter().map(|block| bytes(block)).collect()
+}
+
+fn random_bits(p: &mut Prng, len: usize) -> Vec<Vec<bool>> {
+    (0..INPUTS).map(|_| p.bits(len)).collect()
+}
+
+/// A call is all 64 steps.
+fn steps() -> Case {
+    let port = Contender::new("port", |_| {
+        let mut sum = 0u32;
+        for step in 0..64 {
+            let answer = port::dcch_transition(black_box(step / 2), black_box(step % 2));
+            let [first, second, ..] = answer.output;
+            sum += u32::from(answer.next) + u32::from(first) + u32::from(second);
+        }
+        black_box(sum);
+    });
+    let rust = Contender::new("rust", |_| {
+        let mut sum = 0u32;
+        for step in 0..64 {
+            let (next, [first, second]) =
+                probe::transition(black_box(step / 2), black_box(step % 2 == 1));
+            sum += u32::from(next) + u32::from(first) + u32::from(second);
+        }
+        black_box(sum);
+    });
+    Case {
+        name: "dcch-steps-64".into(),
+        contenders: vec![port, rust],
+    }
+}
+
+fn checksum(p: &mut Prng) -> Case {
+    let bits = random_bits(p, 109);
+    let bytes = all_bytes(&bits);
+    let port = Contender::new("port", move |i| {
+        black_box(port::checksum(black_box(&bytes[i % INPUTS]), DVCC, false));
+    });
+    let rust = Contender::new("rust", move |i| {
+        let information = black_box(&bits[i % INPUTS]);
+        black_box(probe::checksum(information, DVCC, CrcMode::Addressed));
+    });
+    Case {
+        name: "checksum-109".into(),
+        contenders: vec![port, rust],
+    }
+}
+
+fn checksum7(p: &mut Prng) -> Case {
+    let bits = random_bits(p, 48);
+    let bytes = all_bytes(&bits);
+    let port = Contender::new("port", move |i| {
+        black_box(port::checksum7(black_box(&bytes[i % INPUTS])));
+    });
+    let rust = Contender::new("rust", move |i| {
+        black_box(acelp_cc1::probe::checksum(black_box(&bits[i % INPUTS])));
+    });
+    Case {
+        name: "checksum7-48".into(),
+        contenders: vec![port, rust],
+    }
+}
+
+fn search(damage: &str, blocks: &[Vec<bool>]) -> Case {
+    let bytes = all_bytes(blocks);
+    let mut word = [0; 130];
+    let port = Contender::new("port", move |i| {
+        black_box(port::viterbi(black_box(&bytes[i % INPUTS]), &mut word));
+        black_box(&word);
+    });
+    let bits = blocks.to_vec();
+    let rust = Contender::new("rust", move |i| {
+        black_box(probe::viterbi(black_box(&bits[i % INPUTS])));
+    });
+    let mut contenders = vec![port, rust];
+    contenders.extend(peers(blocks));
+    Case {
+        name: format!("search-130-{damage}"),
+        contenders,
+    }
+}
+
+#[cfg(osmocore)]
+fn peers(blocks: &[Vec<bool>]) -> Vec<Contender> {
+    let peer = |name, osmo: Osmo| {
+        let soft: Vec<Vec<i8>> = blocks.iter().map(|block| osmo.soft(block)).collect();
+        let mut bits = vec![0; osmo.written()];
+        Contender::new(name, move |i| {
+            osmo.decode(black_box(&soft[i % INPUTS]), &mut bits);
+            black_box(&bits);
+        })
+    };
+    vec![
+        peer("osmocore-k6", Osmo::generic(130)),
+        peer("osmocore-k7", Osmo::simd(130)),
+    ]
+}
+
+#[cfg(not(osmocore))]
+fn peers(_: &[Vec<bool>]) -> Vec<Contender> {
+    vec![]
+}
+
+/// The Rust has no such search by itself; its decoder tests the checksum after it.
+fn free_search(damage: &str, blocks: &[Vec<bool>]) -> Case {
+    let bytes = all_bytes(blocks);
+    let mut word = [0; 66];
+    let port = Contender::new("port", move |i| {
+        black_box(port::viterbi_free(black_box(&bytes[i % INPUTS]), &mut word));
+        black_box(&word);
+    });
+    let bits: Vec<[bool; 132]> = (blocks.iter())
+        .map(|block| block[..].try_into().unwrap())
+        .collect();
+    let rust = Contender::new("rust+checksum", move |i| {
+        let _ = black_box(sacch::decode(black_box(&bits[i % INPUTS]), DVCC));
+    });
+    Case {
+        name: format!("free-66-{damage}"),
+        contenders: vec![port, rust],
+    }
+}
