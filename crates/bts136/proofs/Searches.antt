@@ -15,23 +15,15 @@ use Rattle.trellis.specs.declared.Outcome.{Outcome}
 use Rattle.bts136.specs.declared.Lent.{Lent}
 use Rattle.bts136.specs.declared.Lent.the-variants.{Fine, Refused}
 use Rattle.bts136.specs.declared.Search.{Search}
-use Rattle.bts136.specs.Flat.{lentOf, noSearch, SearchAnswer}
+use Rattle.bts136.proofs.Steps.{passed, kept}
+use Rattle.bts136.specs.Flat.{lentBlock, noSearch, SearchAnswer}
 
 pub refused-search : (why : Refusal) (n e a : ℕ) → n ≡ numberOf why → e ≡ expectedOf why → a ≡ actualOf why
     → record { refusal = n; expected = e; actual = a; metric = 0; tie = false } ≡ noSearch why
 refused-search why n e a en ee ea = cc
 
--- ---- Fine says that every test was passed
-passed : (t : Bool) (why : Refusal) (x : Lent) → cond t (Refused why) x ≡ Fine → (t ≡ false) × (x ≡ Fine)
-passed true why x e = let z : _≡_ {A = ℕ} 0 1 = cc in absurd (omega arith)
-passed false why x e = (refl, e)
-
-kept : (t : Bool) (why : Refusal) (x : Lent) → cond t x (Refused why) ≡ Fine → (t ≡ true) × (x ≡ Fine)
-kept true why x e = (refl, e)
-kept false why x e = let z : _≡_ {A = ℕ} 0 1 = cc in absurd (omega arith)
-
-pub fine : (coded : List ℕ) (n : ℕ) → lentOf coded n ≡ Fine → (5 ≤ n) × (n ≤ 130) × (length coded ≡ n * 2) × (allBinary coded ≡ true)
-unfolding lentOf
+pub fine : (coded : List ℕ) (n : ℕ) → lentBlock coded n ≡ Fine → (5 ≤ n) × (n ≤ 130) × (length coded ≡ n * 2) × (allBinary coded ≡ true)
+unfolding lentBlock
 fine coded n e =
     let a = passed (ltb (length coded) 10) (Length 260 (length coded)) _ e in
     let b = passed (ltb 260 (length coded)) (Length 260 (length coded)) _ (a .1) in
@@ -45,7 +37,7 @@ fine coded n e =
     (omega arith, omega arith, omega (arith, even), f .0)
 
 -- ---- the answers
-module _ {Finds : List ℕ → Outcome → Type 0} {coded word₀ : List ℕ} {l : Lent} (told : l ≡ lentOf coded (length word₀)) where
+module _ {Finds : List ℕ → Outcome → Type 0} {coded word₀ : List ℕ} {l : Lent} (told : l ≡ lentBlock coded (length word₀)) where
   pub by-refusal : {r : Search} (why : Refusal) → l ≡ Refused why → r ≡ noSearch why → SearchAnswer Finds coded word₀ word₀ r
   by-refusal why e er =
       record {
@@ -61,27 +53,27 @@ module _ {Finds : List ℕ → Outcome → Type 0} {coded word₀ : List ℕ} {l
         searched = λ ef. (refl, refl, refl, f);
       }
 
--- ---- the ways out of `refusal_of`
+-- ---- the ways out of `search_refusal`
 module _ (coded : List ℕ) (n : ℕ) where
-  pub too-short : length coded < 10 → Refused (Length 260 (length coded)) ≡ lentOf coded n
-  unfolding lentOf
+  pub too-short : length coded < 10 → Refused (Length 260 (length coded)) ≡ lentBlock coded n
+  unfolding lentBlock
   too-short h = rw (lt-ltb (length coded) 10 h)
 
   module _ (h10 : 10 ≤ length coded) where
-    pub too-long : 260 < length coded → Refused (Length 260 (length coded)) ≡ lentOf coded n
-    unfolding lentOf
+    pub too-long : 260 < length coded → Refused (Length 260 (length coded)) ≡ lentBlock coded n
+    unfolding lentBlock
     too-long h = rw (le-ltb (length coded) 10 h10, lt-ltb 260 (length coded) h)
 
     module _ (h260 : length coded ≤ 260) where
-      pub unpaired : length coded % 2 ≡ 1 → Refused (Length 260 (length coded)) ≡ lentOf coded n
-      unfolding lentOf
+      pub unpaired : length coded % 2 ≡ 1 → Refused (Length 260 (length coded)) ≡ lentBlock coded n
+      unfolding lentBlock
       unpaired h = rw (le-ltb (length coded) 10 h10, le-ltb 260 (length coded) h260, eq-eqb (length coded % 2) 1 h)
 
       module _ (even : length coded % 2 ≡ 1 → ⊥) where
-        pub other-word : (n ≡ length coded / 2 → ⊥) → Refused (Length (length coded / 2) n) ≡ lentOf coded n
-        unfolding lentOf
+        pub other-word : (n ≡ length coded / 2 → ⊥) → Refused (Length (length coded / 2) n) ≡ lentBlock coded n
+        unfolding lentBlock
         other-word h = rw (le-ltb (length coded) 10 h10, le-ltb 260 (length coded) h260, ne-eqb (length coded % 2) 1 even, ne-eqb n (length coded / 2) h)
 
-        pub by-symbols : {b : Bool} → n ≡ length coded / 2 → b ≡ allBinary coded → cond b Fine (Refused Symbol) ≡ lentOf coded n
-        unfolding lentOf
+        pub by-symbols : {b : Bool} → n ≡ length coded / 2 → b ≡ allBinary coded → cond b Fine (Refused Symbol) ≡ lentBlock coded n
+        unfolding lentBlock
         by-symbols h e = rw (le-ltb (length coded) 10 h10, le-ltb 260 (length coded) h260, ne-eqb (length coded % 2) 1 even, eq-eqb n (length coded / 2) h, e)

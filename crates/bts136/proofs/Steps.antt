@@ -1,10 +1,12 @@
--- The ways out of the three steps. Assumes nothing.
+-- What can be stepped, and the ways out of the three steps. Assumes nothing.
 use mathlib.Core.Path.{_≡_, refl, sym, ap, subst, _∙_}
-use mathlib.Core.Bool.{Bool}
+use mathlib.Core.Bool.{Bool, true, false, cond}
 use mathlib.Core.List.{List, [], _∷_}
 use Prim.Native.Nat.{ℕ, _<_, _≤_}
 use native.Mathlib.Omega.{arith}
+use lib.Dec.{ltb}
 use lib.ListN.{getD, take, drop, replicate}
+use borrow.Author.Tests.{ltb-false, lt-ltb, le-ltb}
 use Rattle.bits.specs.Bits.{bit}
 use Rattle.bits.specs.Refusals.{numberOf}
 use Rattle.bits.specs.declared.Refusal.{Refusal}
@@ -12,35 +14,60 @@ use Rattle.bits.specs.declared.Refusal.the-variants.{Symbol, State}
 use Rattle.coding.specs.Codes.{facch}
 use Rattle.coding.specs.Registers.{Stepped, memoryHigh}
 use Rattle.bts136.specs.declared.Step.{Step}
-use Rattle.bts136.specs.Flat.{noStep, Taken, StepAnswer}
+use Rattle.bts136.specs.declared.Lent.{Lent}
+use Rattle.bts136.specs.declared.Lent.the-variants.{Fine, Refused}
+use Rattle.bts136.specs.Flat.{noStep, lentStep, Taken, StepAnswer}
 
 pub refused-step : (why : Refusal) (n : ℕ) → n ≡ numberOf why → record { refusal = n; next = 0; output = replicate 4 0 } ≡ noStep why
 refused-step why n e = ap (λ (k : ℕ). record { refusal = k; next = 0; output = replicate 4 0 }) e
 
-module _ {code : List (List Bool)} {memory : ℕ → List Bool} {state input : ℕ} {r : Step} where
-  pub by-state : 31 < state → r ≡ noStep State → StepAnswer code memory state input r
-  by-state h e =
+-- ---- Fine says that every test was passed
+pub passed : (t : Bool) (why : Refusal) (x : Lent) → cond t (Refused why) x ≡ Fine → (t ≡ false) × (x ≡ Fine)
+passed true why x e = let z : _≡_ {A = ℕ} 0 1 = cc in absurd (omega arith)
+passed false why x e = (refl, e)
+
+pub kept : (t : Bool) (why : Refusal) (x : Lent) → cond t x (Refused why) ≡ Fine → (t ≡ true) × (x ≡ Fine)
+kept true why x e = (refl, e)
+kept false why x e = let z : _≡_ {A = ℕ} 0 1 = cc in absurd (omega arith)
+
+pub fine-step : (state input : ℕ) → lentStep state input ≡ Fine → (state < 32) × (input < 2)
+unfolding lentStep
+fine-step state input e =
+    let a = passed (ltb 31 state) State _ e in
+    let b = passed (ltb 1 input) Symbol Fine (a .1) in
+    let h : state ≤ 31 = ltb-false 31 state (a .0) in
+    let k : input ≤ 1 = ltb-false 1 input (b .0) in
+    (omega arith, omega arith)
+
+-- ---- the answers
+module _ {code : List (List Bool)} {memory : ℕ → List Bool} {state input : ℕ} {l : Lent} (told : l ≡ lentStep state input) where
+  pub by-refusal : {r : Step} (why : Refusal) → l ≡ Refused why → r ≡ noStep why → StepAnswer code memory state input r
+  by-refusal why e er =
       record {
-        no-state = λ k. e;
-        no-symbol = λ k i. let z : ⊥ = omega arith in absurd z;
-        taken = λ k i. let z : ⊥ = omega arith in absurd z;
+        no-step = λ y ey. let same : y ≡ why = cc in er ∙ ap noStep (sym same);
+        taken = λ ef. let z : _≡_ {A = ℕ} 0 1 = cc in absurd (omega arith);
       }
 
-  pub by-symbol : state ≤ 31 → 1 < input → r ≡ noStep Symbol → StepAnswer code memory state input r
-  by-symbol h i e =
+  pub by-step : {r : Step} → l ≡ Fine → Taken code memory state input r → StepAnswer code memory state input r
+  by-step e t =
       record {
-        no-state = λ k. let z : ⊥ = omega arith in absurd z;
-        no-symbol = λ k j. e;
-        taken = λ k j. let z : ⊥ = omega arith in absurd z;
+        no-step = λ y ey. let z : _≡_ {A = ℕ} 0 1 = cc in absurd (omega arith);
+        taken = λ ef. t;
       }
 
-  pub by-step : state ≤ 31 → input ≤ 1 → Taken code memory state input r → StepAnswer code memory state input r
-  by-step h i t =
-      record {
-        no-state = λ k. let z : ⊥ = omega arith in absurd z;
-        no-symbol = λ k j. let z : ⊥ = omega arith in absurd z;
-        taken = λ k j. t;
-      }
+-- ---- the ways out of `step_refusal`
+module _ (state input : ℕ) where
+  pub no-state : 31 < state → Refused State ≡ lentStep state input
+  unfolding lentStep
+  no-state h = rw (lt-ltb 31 state h)
+
+  pub no-symbol : state ≤ 31 → 1 < input → Refused Symbol ≡ lentStep state input
+  unfolding lentStep
+  no-symbol h k = rw (le-ltb 31 state h, lt-ltb 1 input k)
+
+  pub both-fine : state ≤ 31 → input ≤ 1 → Fine ≡ lentStep state input
+  unfolding lentStep
+  both-fine h k = rw (le-ltb 31 state h, le-ltb 1 input k)
 
 -- a step of a code with two generators
 pub two-outputs : (p q : List Bool) {memory : ℕ → List Bool} {state input next : ℕ} {o : List ℕ} → Stepped (p ∷ q ∷ []) memory state (bit input) next o

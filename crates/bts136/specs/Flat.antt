@@ -2,7 +2,7 @@
 use mathlib.Core.Path.{_≡_}
 use mathlib.Core.Bool.{Bool, true, false, cond}
 use mathlib.Core.List.{List, [], _∷_}
-use Prim.Native.Nat.{ℕ, _-_, _/_, _%_, _<_, _≤_}
+use Prim.Native.Nat.{ℕ, _-_, _/_, _%_}
 use lib.Dec.{eqb, ltb}
 use lib.ListN.{length, take, drop, replicate}
 use Rattle.bits.specs.Bits.{bit, allBinary}
@@ -29,11 +29,14 @@ pub record Taken (code : List (List Bool)) (memory : ℕ → List Bool) (state i
   pub step : Stepped code memory state (bit input) (r .next) (take (length code) (r .output))
   pub rest : drop (length code) (r .output) ≡ replicate (4 - length code) 0
 
--- State where the state is above 31, else Symbol where the input is no bit, else the step
+-- State where the state is above 31, then Symbol where the input is no bit
+unfoldable pub lentStep : ℕ → ℕ → Lent
+lentStep state input = cond (ltb 31 state) (Refused State) (cond (ltb 1 input) (Refused Symbol) Fine)
+
+-- the answer of a step
 pub record StepAnswer (code : List (List Bool)) (memory : ℕ → List Bool) (state input : ℕ) (r : Step) : Type 0 where
-  pub no-state : 31 < state → r ≡ noStep State
-  pub no-symbol : state ≤ 31 → 1 < input → r ≡ noStep Symbol
-  pub taken : state ≤ 31 → input ≤ 1 → Taken code memory state input r
+  pub no-step : (why : Refusal) → lentStep state input ≡ Refused why → r ≡ noStep why
+  pub taken : lentStep state input ≡ Fine → Taken code memory state input r
 
 -- ---- a checksum, which is never pending or rejected
 abbrev pub flatChecksum : Answer ℕ → Checksum
@@ -47,8 +50,8 @@ modeOf broadcast = cond broadcast Broadcast Addressed
 
 -- ---- a search
 -- Length where what was received is no number of pairs from 5 to 130, or the word has not a bit for each pair; then Symbol
-unfoldable pub lentOf : List ℕ → ℕ → Lent
-lentOf coded steps =
+unfoldable pub lentBlock : List ℕ → ℕ → Lent
+lentBlock coded steps =
     cond (ltb (length coded) 10) (Refused (Length 260 (length coded)))
     (cond (ltb 260 (length coded)) (Refused (Length 260 (length coded)))
     (cond (eqb (length coded % 2) 1) (Refused (Length 260 (length coded)))
@@ -59,5 +62,5 @@ noSearch why = record { refusal = numberOf why; expected = expectedOf why; actua
 
 -- the answer of a search over n steps, of which Finds says what it finds; a refused call writes nothing
 pub record SearchAnswer (Finds : List ℕ → Outcome → Type 0) (coded word₀ word : List ℕ) (r : Search) : Type 0 where
-  pub no-search : (why : Refusal) → lentOf coded (length word₀) ≡ Refused why → (r ≡ noSearch why) × (word ≡ word₀)
-  pub searched : lentOf coded (length word₀) ≡ Fine → (r .refusal ≡ 0) × (r .expected ≡ 0) × (r .actual ≡ 0) × Finds word (record { metric = r .metric; tie = r .tie })
+  pub no-search : (why : Refusal) → lentBlock coded (length word₀) ≡ Refused why → (r ≡ noSearch why) × (word ≡ word₀)
+  pub searched : lentBlock coded (length word₀) ≡ Fine → (r .refusal ≡ 0) × (r .expected ≡ 0) × (r .actual ≡ 0) × Finds word (record { metric = r .metric; tie = r .tie })

@@ -18,7 +18,7 @@ ghost use Rattle.coding.specs.Registers.{memoryHigh, memoryLow};
 ghost use Rattle.trellis.specs.Search.{Found, FoundFirst};
 ghost use Rattle.trellis.specs.Words.{OfLength};
 ghost use Rattle.viterbi.specs.Hard.{Terminated, freeWeight, weight};
-ghost use Rattle.bts136.specs.Flat.{SearchAnswer, StepAnswer, flatChecksum, lentOf, modeOf, noSearch, noStep};
+ghost use Rattle.bts136.specs.Flat.{SearchAnswer, StepAnswer, flatChecksum, lentBlock, lentStep, modeOf, noSearch, noStep};
 
 #[repr(C)]
 pub struct Step {
@@ -43,6 +43,25 @@ pub struct Search {
     pub tie: bool,
 }
 
+// Whether a call can go on with what it was lent.
+pub enum Lent {
+    Fine,
+    Refused(Refusal),
+}
+
+// Whether there is such a state and such an input.
+fn step_refusal(state: u8, input: u8) -> Lent
+    ensures { λ r. ⌜ r ≡ lentStep state input ⌝ }
+{
+    if 31 < state {
+        return Lent::Refused(Refusal::State);
+    }
+    if 1 < input {
+        return Lent::Refused(Refusal::Symbol);
+    }
+    Lent::Fine
+}
+
 fn no_step(why: Refusal) -> Step
     ensures { λ r. ⌜ r ≡ noStep why ⌝ }
 {
@@ -58,11 +77,9 @@ fn no_step(why: Refusal) -> Step
 pub extern "C" fn bts136_dcch_transition(state: u8, input: u8) -> Step
     ensures { λ r. ⌜ StepAnswer dcch memoryHigh state input r ⌝ }
 {
-    if 31 < state {
-        return no_step(Refusal::State);
-    }
-    if 1 < input {
-        return no_step(Refusal::Symbol);
+    let ready = step_refusal(state, input);
+    if let Lent::Refused(why) = ready {
+        return no_step(why);
     }
     let step = coding::dcch::transition(state, input);
     let output = step.output;
@@ -78,11 +95,9 @@ pub extern "C" fn bts136_dcch_transition(state: u8, input: u8) -> Step
 pub extern "C" fn bts136_facch_transition(state: u8, input: u8) -> Step
     ensures { λ r. ⌜ StepAnswer facch memoryHigh state input r ⌝ }
 {
-    if 31 < state {
-        return no_step(Refusal::State);
-    }
-    if 1 < input {
-        return no_step(Refusal::Symbol);
+    let ready = step_refusal(state, input);
+    if let Lent::Refused(why) = ready {
+        return no_step(why);
     }
     let step = coding::facch::transition(state, input);
     let output = step.output;
@@ -98,11 +113,9 @@ pub extern "C" fn bts136_facch_transition(state: u8, input: u8) -> Step
 pub extern "C" fn bts136_acelp_transition(state: u8, input: u8) -> Step
     ensures { λ r. ⌜ StepAnswer acelp memoryLow state input r ⌝ }
 {
-    if 31 < state {
-        return no_step(Refusal::State);
-    }
-    if 1 < input {
-        return no_step(Refusal::Symbol);
+    let ready = step_refusal(state, input);
+    if let Lent::Refused(why) = ready {
+        return no_step(why);
     }
     let step = coding::acelp::transition(state, input);
     let output = step.output;
@@ -151,14 +164,9 @@ pub extern "C" fn bts136_checksum7(information: &[u8]) -> Checksum
     flat_checksum(coding::checksum::checksum7(information))
 }
 
-pub enum Lent {
-    Fine,
-    Refused(Refusal),
-}
-
 // Whether a received block can be searched into a word of so many bits.
-fn refusal_of(coded: &[u8], steps: usize) -> Lent
-    ensures { λ r. ⌜ r ≡ lentOf (now (coded .entry)) steps ⌝ }
+fn search_refusal(coded: &[u8], steps: usize) -> Lent
+    ensures { λ r. ⌜ r ≡ lentBlock (now (coded .entry)) steps ⌝ }
 {
     let actual = coded.len();
     if actual < 10 {
@@ -203,7 +211,7 @@ fn no_search(why: Refusal) -> Search
 pub extern "C" fn bts136_viterbi(coded: &[u8], word: &mut [u8]) -> Search
     ensures { λ r. ⌜ SearchAnswer (FoundFirst (Terminated (length (now (word .entry)))) (weight (bits (now (coded .entry))))) (now (coded .entry)) (now (word .entry)) (now (word .exit)) r ⌝ }
 {
-    let ready = refusal_of(coded, word.len());
+    let ready = search_refusal(coded, word.len());
     if let Lent::Refused(why) = ready {
         return no_search(why);
     }
@@ -222,7 +230,7 @@ pub extern "C" fn bts136_viterbi(coded: &[u8], word: &mut [u8]) -> Search
 pub extern "C" fn bts136_viterbi_free(coded: &[u8], word: &mut [u8]) -> Search
     ensures { λ r. ⌜ SearchAnswer (Found (OfLength (length (now (word .entry)))) (freeWeight (bits (now (coded .entry))))) (now (coded .entry)) (now (word .entry)) (now (word .exit)) r ⌝ }
 {
-    let ready = refusal_of(coded, word.len());
+    let ready = search_refusal(coded, word.len());
     if let Lent::Refused(why) = ready {
         return no_search(why);
     }

@@ -28,7 +28,7 @@ zero-start s h = getD-replicate {A = ℕ} 32 s 0 0 h
 pub zeros-start : Starts zeros
 zeros-start s h = omega (arith, zero-start s h)
 
-module _ (branch : ℕ → ℕ → Bool → ℕ) (n : ℕ) (h5 : 5 ≤ n) (ps : List (List ℕ)) (ms : List ℕ) (f : Forwarded (engine branch zeros) ps n ms) (d : End) (b : LowestEnd ms 32 d) where
+module _ (branch : ℕ → ℕ → Bool → ℕ) (n : ℕ) (h5 : 5 ≤ n) (ps₀ ps : List (List ℕ)) (ms : List ℕ) (f : Forwarded (engine branch zeros) ps₀ ps n ms) (d : End) (b : LowestEnd ms 32 d) where
   abbrev X : Trellis ℕ
   X = engine branch zeros
 

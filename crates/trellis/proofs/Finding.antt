@@ -37,10 +37,10 @@ start-le s h r l = go (ℕ-discrete r s)
     go (no n) = omega (arith, getD-set-other {A = ℕ} (replicate 32 1000) s r 0 0 n, getD-replicate {A = ℕ} 32 r 1000 0 l)
 
 module _ (rows : List (List ℕ)) (symbols : List ℕ) (c : Rows rows symbols) (s t : ℕ) (hs : s < 32) (ht : t < 32) (h5 : 5 ≤ length symbols) (hn : length symbols ≤ 130) where
-  pub found : (ps : List (List ℕ)) (ms bits : List ℕ) (n : ℕ) (mark : Bool) → Forwarded (engine (branchBy rows symbols) (startIn s)) ps (length symbols) ms
+  pub found : (ps₀ ps : List (List ℕ)) (ms bits : List ℕ) (n : ℕ) (mark : Bool) → Forwarded (engine (branchBy rows symbols) (startIn s)) ps₀ ps (length symbols) ms
       → n ≡ length symbols → Traced ps 0 n t bits mark
       → FoundFirst (Leads newestLow s t (length symbols)) (wordMetric newestLow (branchBy rows symbols) s) bits (record { metric = getD ms t 0; tie = mark })
-  found ps ms bits n mark f en b' =
+  found ps₀ ps ms bits n mark f en b' =
       let b : Traced ps 0 (length symbols) t bits mark = subst (λ (k : ℕ). Traced ps 0 k t bits mark) en b' in
       let start : ℕ → ℕ = λ r. getD (startIn s) r 0 in
       let q : fixed.FixedStart newestLow (branchBy rows symbols) start s (length symbols) 1000 4 =

@@ -8,6 +8,7 @@ use native.Mathlib.Nat.{not-suc-le-zero}
 use native.Mathlib.Numerals.{add-one}
 use lib.Dec.{eqb→eq, eqb, ltb, ltb→lt}
 use lib.ListN.{length, getD, set, length-set}
+use lib.Seq.{getD-set-other}
 use Rattle.bits.specs.Bits.{bit}
 use Rattle.trellis.specs.Numbering.{predLow}
 use Rattle.trellis.specs.Trellis.{Trellis, wholes, stateMetric, candidate}
@@ -49,20 +50,21 @@ module _ (branch : ℕ → ℕ → Bool → ℕ) (start : List ℕ) where
       → BytesTo X (set ps k row) (suc k)
   rows-more ps k row h rows at = subst (λ (m : ℕ). BytesTo X (set ps k row) m) (add-one k) (set-next (λ (j : ℕ) (l : List ℕ). BytesAt X l j) [] ps k row h at rows)
 
--- after k steps; m is the number of rows of predecessors
-pub record Running (branch : ℕ → ℕ → Bool → ℕ) (start : List ℕ) (m : ℕ) (ps : List (List ℕ)) (ms : List ℕ) (k : ℕ) : Type 0 where
-  pub size : length ps ≡ m
+-- after k steps
+pub record Running (branch : ℕ → ℕ → Bool → ℕ) (start : List ℕ) (ps₀ ps : List (List ℕ)) (ms : List ℕ) (k : ℕ) : Type 0 where
+  pub size : length ps ≡ length ps₀
   pub metrics : MetricsAt (engine branch start) ms k
   pub bytes : BytesTo (engine branch start) ps k
+  pub rest : (j : ℕ) → k ≤ j → getD ps j [] ≡ getD ps₀ j []
 
-pub running-none : (branch : ℕ → ℕ → Bool → ℕ) (start : List ℕ) (ps : List (List ℕ)) → Running branch start (length ps) ps start 0
+pub running-none : (branch : ℕ → ℕ → Bool → ℕ) (start : List ℕ) (ps : List (List ℕ)) → Running branch start ps ps start 0
 unfolding stateMetric
-running-none branch start ps = record { size = refl; metrics = λ t h. refl; bytes = λ j h. absurd (not-suc-le-zero h) }
+running-none branch start ps = record { size = refl; metrics = λ t h. refl; bytes = λ j h. absurd (not-suc-le-zero h); rest = λ j h. refl }
 
-pub forwarded : {branch : ℕ → ℕ → Bool → ℕ} {start : List ℕ} {m : ℕ} {ps : List (List ℕ)} {ms : List ℕ} {k : ℕ} → Running branch start m ps ms k → (n : ℕ) → k ≡ n
-    → Forwarded (engine branch start) ps n ms
-forwarded {branch} {start} {m} {ps} {ms} i n e =
-    subst (λ (x : ℕ). Forwarded (engine branch start) ps x ms) e (record { bytes = i .bytes; metrics = i .metrics })
+pub forwarded : {branch : ℕ → ℕ → Bool → ℕ} {start : List ℕ} {ps₀ ps : List (List ℕ)} {ms : List ℕ} {k : ℕ} → Running branch start ps₀ ps ms k → (n : ℕ) → k ≡ n
+    → Forwarded (engine branch start) ps₀ ps n ms
+forwarded {branch} {start} {ps₀} {ps} {ms} i n e =
+    subst (λ (x : ℕ). Forwarded (engine branch start) ps₀ ps x ms) e (record { bytes = i .bytes; metrics = i .metrics; rest = i .rest })
 
 module _ (rs : List (List ℕ)) (ss : List ℕ) where
   pub branch-le : Rows rs ss → (k s : ℕ) (b : Bool) → k < length ss → s < 32 → branchBy rs ss k s b ≤ 4
@@ -85,14 +87,15 @@ module _ (rs : List (List ℕ)) (ss : List ℕ) where
         ap (λ (i : ℕ). getD (getD rs i []) (slotInto t b) 0) ex ∙ ap (λ (g : ℕ). getD (getD rs (getD ss k 0) []) g 0) (sym (slot-into t b h))
 
     -- one step more
-    pub running-more : (m : ℕ) (ps : List (List ℕ)) (ms : List ℕ) (r : Column) → Running (branchBy rs ss) start m ps ms k → k < m
-        → Advanced ms (getD rs x []) r → Running (branchBy rs ss) start m (set ps k (r .predecessors)) (r .metrics) (k + 1)
-    running-more m ps ms r i h adv =
-        let size : length ps ≡ m = i .size in
-        subst (λ (j : ℕ). Running (branchBy rs ss) start m (set ps k (r .predecessors)) (r .metrics) j) (sym (add-one k))
+    pub running-more : (ps₀ ps : List (List ℕ)) (ms : List ℕ) (r : Column) → Running (branchBy rs ss) start ps₀ ps ms k → k < length ps₀
+        → Advanced ms (getD rs x []) r → Running (branchBy rs ss) start ps₀ (set ps k (r .predecessors)) (r .metrics) (k + 1)
+    running-more ps₀ ps ms r i h adv =
+        let size : length ps ≡ length ps₀ = i .size in
+        subst (λ (j : ℕ). Running (branchBy rs ss) start ps₀ (set ps k (r .predecessors)) (r .metrics) j) (sym (add-one k))
         (record {
           size = length-set ps k (r .predecessors) ∙ i .size;
           metrics = step-metrics (branchBy rs ss) start ms (getD rs x []) k (i .metrics) row-at r adv;
           bytes = rows-more (branchBy rs ss) start ps k (r .predecessors) (omega arith) (i .bytes)
               (step-row (branchBy rs ss) start ms (getD rs x []) k (i .metrics) row-at r adv);
+          rest = λ j l. getD-set-other ps k j (r .predecessors) [] (λ e. omega arith) ∙ i .rest j (omega arith);
         })

@@ -77,6 +77,8 @@ module _ (X : Trellis ℕ) where
   abbrev pub BytesTo : List (List ℕ) → ℕ → Type 0
   BytesTo ps n = (j : ℕ) → j < n → BytesAt (getD ps j []) j
 
-  pub record Forwarded (ps : List (List ℕ)) (n : ℕ) (ms : List ℕ) : Type 0 where
+  -- after n steps; the rows past them are as they were
+  pub record Forwarded (ps₀ ps : List (List ℕ)) (n : ℕ) (ms : List ℕ) : Type 0 where
     pub bytes : BytesTo ps n
     pub metrics : MetricsAt ms n
+    pub rest : (j : ℕ) → n ≤ j → getD ps j [] ≡ getD ps₀ j []

@@ -88,7 +88,7 @@ pub fn forward(
     predecessors: &mut [[u8; 32]],
 ) -> [u16; 32]
     requires { ⌜ (length (now symbols) ≤ 130) × (length (now symbols) ≤ length (now predecessors)) × Starts start × Rows (now rows) (now symbols) ⌝ }
-    ensures { λ r. ⌜ Forwarded (engine (branchBy (now (rows .entry)) (now (symbols .entry))) start) (now (predecessors .exit)) (length (now (symbols .entry))) r ⌝ }
+    ensures { λ r. ⌜ Forwarded (engine (branchBy (now (rows .entry)) (now (symbols .entry))) start) (now (predecessors .entry)) (now (predecessors .exit)) (length (now (symbols .entry))) r ⌝ }
 {
     let mut metrics = start;
     for step in 0..symbols.len() {

@@ -1,43 +1,47 @@
--- `bts136::bts136_dcch_transition` meets its contract: a refusal by its state or its input, or the step. Assumes nothing.
-use native.Mathlib.Omega.{arith}
-use Rattle.bts136.proofs.Steps.{by-state, by-symbol, by-step, two-outputs}
+-- `bts136::bts136_dcch_transition` meets its contract: a refusal, or the step. Assumes nothing.
+use mathlib.Core.Path.{sym, _∙_}
+use Rattle.bts136.proofs.Steps.{fine-step, by-refusal, by-step, two-outputs}
 use borrow.Author.Needs.{needs}
 use Rattle.bts136.proofs.bts136_dcch_transition.Statement.{statement}
 use Rattle.bts136.proofs.bts136_dcch_transition.Tie as tie
+
+step-refusal-requires : tie.Need-step-refusal-requires
+step-refusal-requires c κs = search needs
+
+enum-known-ready : tie.Need-enum-known-ready
+enum-known-ready c = search needs
 
 no-step-requires : tie.Need-no-step-requires
 no-step-requires c κs = search needs
 
 returns : tie.Need-returns
-returns c = by-state (c .before .if1 .taken) (c .no-step .ensures)
+returns c = by-refusal (c .before .before .before .before .step-refusal .ensures) _ (c .before .before .ready .given .1) (c .no-step .ensures)
 
-no-step-requires-2 : tie.Need-no-step-requires-2
-no-step-requires-2 c κs = search needs
-
-returns-2 : tie.Need-returns-2
-returns-2 c = by-symbol (omega arith) (omega arith) (c .no-step2 .ensures)
+enum-told : tie.Need-enum-told
+enum-told c = search needs
 
 transition-requires : tie.Need-transition-requires
-transition-requires c κs = search needs
+transition-requires c κs = fine-step _ _ (sym (c .before .before .step-refusal .ensures) ∙ c .enum-told .given .1)
 
-array-read-t10 : tie.Need-array-read-t10
-array-read-t10 c = search needs
+array-read-t9 : tie.Need-array-read-t9
+array-read-t9 c = search needs
 
-array-read-t13 : tie.Need-array-read-t13
-array-read-t13 c = search needs
+array-read-t12 : tie.Need-array-read-t12
+array-read-t12 c = search needs
 
-returns-3 : tie.Need-returns-3
-returns-3 c = by-step (omega arith) (omega arith) (two-outputs _ _ (c .before .transition .ensures))
+returns-2 : tie.Need-returns-2
+returns-2 c = by-step (c .before .before .before .before .step-refusal .ensures) (c .before .before .enum-told .given .1) (two-outputs _ _ (c .before .transition .ensures))
 
 pub bts136-dcch-transition-spec : {M : Type 1} → statement M
 bts136-dcch-transition-spec =
     tie.close
     (tie.spec
+    step-refusal-requires
+    enum-known-ready
     no-step-requires
     returns
-    no-step-requires-2
-    returns-2
+    enum-told
     transition-requires
-    array-read-t10
-    array-read-t13
-    returns-3)
+    array-read-t9
+    array-read-t12
+    returns-2)

@@ -1,29 +1,39 @@
--- `bts136::bts136_facch_transition` meets its contract: a refusal by its state or its input, or the step. Assumes nothing.
-use native.Mathlib.Omega.{arith}
-use Rattle.bts136.proofs.Steps.{by-state, by-symbol, by-step, four-outputs}
+-- `bts136::bts136_facch_transition` meets its contract: a refusal, or the step. Assumes nothing.
+use mathlib.Core.Path.{sym, _∙_}
+use Rattle.bts136.proofs.Steps.{fine-step, by-refusal, by-step, four-outputs}
 use borrow.Author.Needs.{needs}
 use Rattle.bts136.proofs.bts136_facch_transition.Statement.{statement}
 use Rattle.bts136.proofs.bts136_facch_transition.Tie as tie
+
+step-refusal-requires : tie.Need-step-refusal-requires
+step-refusal-requires c κs = search needs
+
+enum-known-ready : tie.Need-enum-known-ready
+enum-known-ready c = search needs
 
 no-step-requires : tie.Need-no-step-requires
 no-step-requires c κs = search needs
 
 returns : tie.Need-returns
-returns c = by-state (c .before .if1 .taken) (c .no-step .ensures)
+returns c = by-refusal (c .before .before .before .before .step-refusal .ensures) _ (c .before .before .ready .given .1) (c .no-step .ensures)
 
-no-step-requires-2 : tie.Need-no-step-requires-2
-no-step-requires-2 c κs = search needs
-
-returns-2 : tie.Need-returns-2
-returns-2 c = by-symbol (omega arith) (omega arith) (c .no-step2 .ensures)
+enum-told : tie.Need-enum-told
+enum-told c = search needs
 
 transition-requires : tie.Need-transition-requires
-transition-requires c κs = search needs
+transition-requires c κs = fine-step _ _ (sym (c .before .before .step-refusal .ensures) ∙ c .enum-told .given .1)
 
-returns-3 : tie.Need-returns-3
-returns-3 c = by-step (omega arith) (omega arith) (four-outputs (c .before .transition .ensures))
+returns-2 : tie.Need-returns-2
+returns-2 c = by-step (c .before .before .before .before .step-refusal .ensures) (c .before .before .enum-told .given .1) (four-outputs (c .before .transition .ensures))
 
 pub bts136-facch-transition-spec : {M : Type 1} → statement M
 bts136-facch-transition-spec =
     tie.close
-    (tie.spec no-step-requires returns no-step-requires-2 returns-2 transition-requires returns-3)
+    (tie.spec
+    step-refusal-requires
+    enum-known-ready
+    no-step-requires
+    returns
+    enum-told
+    transition-requires
+    returns-2)

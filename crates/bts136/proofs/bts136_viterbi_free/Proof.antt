@@ -6,8 +6,8 @@ use borrow.Author.Needs.{needs}
 use Rattle.bts136.proofs.bts136_viterbi_free.Statement.{statement}
 use Rattle.bts136.proofs.bts136_viterbi_free.Tie as tie
 
-refusal-of-requires : tie.Need-refusal-of-requires
-refusal-of-requires c κs = search needs
+search-refusal-requires : tie.Need-search-refusal-requires
+search-refusal-requires c κs = search needs
 
 enum-known-ready : tie.Need-enum-known-ready
 enum-known-ready c = search needs
@@ -16,25 +16,25 @@ no-search-requires : tie.Need-no-search-requires
 no-search-requires c κs = search needs
 
 returns : tie.Need-returns
-returns c = by-refusal (c .before .before .before .before .refusal-of .ensures) _ (c .before .before .ready .given .1) (c .no-search .ensures)
+returns c = by-refusal (c .before .before .before .before .search-refusal .ensures) _ (c .before .before .ready .given .1) (c .no-search .ensures)
 
 enum-told : tie.Need-enum-told
 enum-told c = search needs
 
 free-requires : tie.Need-free-requires
-free-requires c κs = fine _ _ (sym (c .before .before .before .refusal-of .ensures) ∙ c .before .enum-told .given .1)
+free-requires c κs = fine _ _ (sym (c .before .before .before .search-refusal .ensures) ∙ c .before .enum-told .given .1)
 
 same-length : tie.Need-same-length
 same-length c = search needs
 
 returns-2 : tie.Need-returns-2
-returns-2 c = by-search (c .before .before .before .before .before .before .refusal-of .ensures) (c .before .before .before .before .enum-told .given .1) (c .before .before .free .ensures)
+returns-2 c = by-search (c .before .before .before .before .before .before .search-refusal .ensures) (c .before .before .before .before .enum-told .given .1) (c .before .before .free .ensures)
 
 pub bts136-viterbi-free-spec : {M : Type 1} → statement M
 bts136-viterbi-free-spec =
     tie.close
     (tie.spec
-    refusal-of-requires
+    search-refusal-requires
     enum-known-ready
     no-search-requires
     returns

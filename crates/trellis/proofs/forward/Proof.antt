@@ -10,7 +10,7 @@ use Rattle.trellis.proofs.forward.Statement.{statement}
 use Rattle.trellis.proofs.forward.Tie as tie
 
 abbrev Inv-loop : tie.InvT-loop
-Inv-loop rows symbols predecessors₀ metrics₀ step₀ step-end predecessors metrics step = (step-end ≡ length symbols) × (step ≤ length symbols) × Running (branchBy rows symbols) metrics₀ (length predecessors₀) predecessors metrics step
+Inv-loop rows symbols predecessors₀ metrics₀ step₀ step-end predecessors metrics step = (step-end ≡ length symbols) × (step ≤ length symbols) × Running (branchBy rows symbols) metrics₀ predecessors₀ predecessors metrics step
 
 abbrev μ-loop : tie.MeasureT-loop
 μ-loop rows symbols predecessors₀ metrics₀ step₀ step-end predecessors metrics step = step-end - step

@@ -37,7 +37,7 @@ returns c =
     let begin = c .before .before .before .before .before .before .before .before .before .before in
     let fwd = c .before .before .before .before .before .before .forward in
     found (begin .args .rows .now) (begin .args .symbols .now) (begin .pre .5) (begin .args .from) (begin .args .to) (begin .pre .0) (begin .pre .1) (begin .pre .2) (begin .pre .3)
-    _ _ _ _ _ (fwd .ensures) (begin .pre .4) (c .before .before .traceback .ensures)
+    _ _ _ _ _ _ (fwd .ensures) (begin .pre .4) (c .before .before .traceback .ensures)
 
 pub nearest-between-spec : {M : Type 1} → statement M
 nearest-between-spec =

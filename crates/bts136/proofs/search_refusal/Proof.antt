@@ -1,4 +1,4 @@
--- `bts136::refusal_of` meets its contract: a way out for each test of the definition. Assumes nothing.
+-- `bts136::search_refusal` meets its contract: a way out for each test of the definition. Assumes nothing.
 use native.Mathlib.Omega.{arith}
 use mathlib.Core.Path.{sym, ap, _∙_}
 use mathlib.Core.Bool.{Bool, cond}
@@ -6,8 +6,8 @@ use Rattle.bits.specs.declared.Refusal.the-variants.{Symbol}
 use Rattle.bts136.specs.declared.Lent.the-variants.{Fine, Refused}
 use Rattle.bts136.proofs.Searches.{too-short, too-long, unpaired, other-word, by-symbols}
 use borrow.Author.Needs.{needs}
-use Rattle.bts136.proofs.refusal_of.Statement.{statement}
-use Rattle.bts136.proofs.refusal_of.Tie as tie
+use Rattle.bts136.proofs.search_refusal.Statement.{statement}
+use Rattle.bts136.proofs.search_refusal.Tie as tie
 
 wrong-length-requires : tie.Need-wrong-length-requires
 wrong-length-requires c κs = search needs
@@ -46,8 +46,8 @@ returns-6 c =
     ap (λ (b : Bool). cond b Fine (Refused Symbol)) (sym (c .if5 .left))
     ∙ by-symbols (c .before .before .before .before .before .before .before .args .coded .now) (c .before .before .before .before .before .before .before .args .steps) (omega arith) (omega arith) (λ e. omega arith) (omega arith) (c .before .all-binary .ensures)
 
-pub refusal-of-spec : {M : Type 1} → statement M
-refusal-of-spec =
+pub search-refusal-spec : {M : Type 1} → statement M
+search-refusal-spec =
     tie.close
     (tie.spec
     wrong-length-requires
