@@ -1,3 +1,4 @@
+-- `trellis::advance` meets its contract: the butterflies passed fill two states each. Assumes nothing.
 use Rattle.trellis.proofs.Filled.{Filled, filled-more, filled-all}
 use Rattle.trellis.proofs.advance.Statement.{statement}
 use native.Mathlib.Nat.{not-suc-le-zero}

@@ -1,3 +1,4 @@
+-- `trellis::decide` meets its contract. Assumes nothing.
 use Rattle.trellis.proofs.Select.{decide-upper, decide-lower}
 use Rattle.trellis.proofs.decide.Statement.{statement}
 use borrow.Author.Needs.{needs}

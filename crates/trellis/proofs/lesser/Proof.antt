@@ -1,3 +1,4 @@
+-- `trellis::lesser` meets its contract. Assumes nothing.
 use borrow.Author.Needs.{needs}
 use Rattle.trellis.proofs.Select.{lesser-upper, lesser-lower}
 use Rattle.trellis.proofs.lesser.Statement.{statement}

@@ -1,3 +1,4 @@
+-- `trellis::predecessor_byte` meets its contract: a predecessor, 16 and 96 stay below 256. Assumes nothing.
 use Rattle.trellis.proofs.Select.{decide-le, mark-le}
 use Rattle.trellis.proofs.predecessor_byte.Statement.{statement}
 use native.Mathlib.Omega.{arith}

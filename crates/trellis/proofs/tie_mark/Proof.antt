@@ -1,3 +1,4 @@
+-- `trellis::tie_mark` meets its contract. Assumes nothing.
 use Rattle.trellis.proofs.Select.{mark-set, mark-none}
 use Rattle.trellis.proofs.tie_mark.Statement.{statement}
 use Rattle.trellis.proofs.tie_mark.Tie as tie

@@ -1,3 +1,4 @@
+-- `trellis::tie_so_far` meets its contract. Assumes nothing.
 use borrow.Author.Needs.{needs}
 use Rattle.trellis.proofs.tie_so_far.Statement.{statement}
 use Rattle.trellis.proofs.tie_so_far.Tie as tie

@@ -1,3 +1,4 @@
+-- `trellis::traceback` meets its contract: the bits and the tie of the steps passed, read from the end. Assumes nothing.
 use native.Mathlib.Omega.{arith}
 use Rattle.trellis.proofs.Tracing.{Tracing, tracing-none, tracing-more, tracing-done}
 use Rattle.trellis.proofs.traceback.Statement.{statement}

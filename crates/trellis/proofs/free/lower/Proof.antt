@@ -1,3 +1,4 @@
+-- `trellis::free::lower` meets its contract: less, more or the same. Assumes nothing.
 use borrow.Author.Needs.{needs}
 use Rattle.trellis.proofs.Ends.{less, more, even}
 use Rattle.trellis.proofs.free.lower.Statement.{statement}

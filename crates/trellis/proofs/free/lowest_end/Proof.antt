@@ -1,3 +1,4 @@
+-- `trellis::free::lowest_end` meets its contract: the lowest of the ends passed. Assumes nothing.
 use native.Mathlib.Omega.{arith}
 use Prim.Native.Nat.{ℕ, _+_, _≤_, _-_}
 use mathlib.Core.Path.{_≡_, refl, sym, subst}
