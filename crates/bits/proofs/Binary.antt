@@ -7,7 +7,7 @@ use native.Mathlib.Omega.{arith}
 use native.Mathlib.Nat.{not-suc-le-zero}
 use native.Mathlib.Numerals.{add-one}
 use lib.Dec.{eqb, ltb}
-use lib.ListN.{length, getD, drop, drop-of-length-le}
+use lib.ListN.{length, getD, take, drop, drop-of-length-le}
 use lib.Seq.{drop-cons}
 use borrow.Author.Tests.{ltb-true, lt-ltb, le-ltb}
 use Rattle.bits.specs.Bits.{byte, bit, bytes, bits, allBinary, differ}
@@ -133,3 +133,26 @@ module _ {s : List ℕ} {k : ℕ} (i : Scanning s k) where
   pub scanning-done : length s ≤ k → true ≡ allBinary s
   unfolding allBinary
   scanning-done h = sym (i .rest ∙ ap allBinary (drop-of-length-le s h))
+
+-- ---- parts of a list
+pub bits-take : (n : ℕ) (l : List ℕ) → bits (take n l) ≡ take n (bits l)
+bits-take zero l = refl
+bits-take (suc n) [] = refl
+bits-take (suc n) (x ∷ l) = ap (λ (r : List Bool). bit x ∷ r) (bits-take n l)
+
+pub bits-drop : (n : ℕ) (l : List ℕ) → bits (drop n l) ≡ drop n (bits l)
+bits-drop zero l = refl
+bits-drop (suc n) [] = refl
+bits-drop (suc n) (x ∷ l) = bits-drop n l
+
+pub binary-take : (n : ℕ) (l : List ℕ) → allBinary l ≡ true → allBinary (take n l) ≡ true
+unfolding allBinary
+binary-take zero l e = refl
+binary-take (suc n) [] e = refl
+binary-take (suc n) (x ∷ l) e = binary-cons x (take n l) (binary-head x l e) ∙ binary-take n l (binary-tail x l e)
+
+pub binary-drop : (n : ℕ) (l : List ℕ) → allBinary l ≡ true → allBinary (drop n l) ≡ true
+unfolding allBinary
+binary-drop zero l e = e
+binary-drop (suc n) [] e = refl
+binary-drop (suc n) (x ∷ l) e = binary-drop n l (binary-tail x l e)

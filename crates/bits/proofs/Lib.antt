@@ -1,8 +1,9 @@
 -- The laws that every crate cites.
 pub mod Tested
 pub mod Filled
-pub mod Lent
+pub mod LentPart
 pub mod Ring
 pub mod Binary
 pub mod Packed
 pub mod Tally
+pub mod Refusing

@@ -5,7 +5,7 @@ ghost use Prim.Native.Nat.{_<_, _≤_};
 ghost use lib.ListN.{length};
 ghost use Rattle.bits.specs.Bits.{allBinary, bit, bits, bytes, differ, disagreements};
 ghost use Rattle.bits.specs.Numbers.{packed, unpacked};
-ghost use Rattle.bits.specs.Refusals.{actualOf, expectedOf, numberOf};
+ghost use Rattle.bits.specs.Refusals.{actualOf, binaryOf, exactOf, expectedOf, firstOf, numberOf};
 
 // Why a call is refused. `number` gives document 01's number of each.
 pub enum Refusal {
@@ -76,6 +76,45 @@ pub fn actual(refusal: Refusal) -> usize
         Refusal::Line => 0,
         Refusal::State => 0,
     }
+}
+
+// Whether a call can go on with what it was lent.
+pub enum Lent {
+    Fine,
+    Refused(Refusal),
+}
+
+// The first refusal of two tests.
+pub fn first(earlier: Lent, later: Lent) -> Lent
+    ensures { λ r. ⌜ r ≡ firstOf earlier later ⌝ }
+{
+    match earlier {
+        Lent::Refused(why) => Lent::Refused(why),
+        Lent::Fine => later,
+    }
+}
+
+// Refused where a slice has not the exact length.
+pub fn exact(wanted: usize, given: usize) -> Lent
+    ensures { λ r. ⌜ r ≡ exactOf wanted given ⌝ }
+{
+    if wanted == given {
+        return Lent::Fine;
+    }
+    Lent::Refused(Refusal::Length {
+        expected: wanted,
+        actual: given,
+    })
+}
+
+// Refused where a byte is no bit.
+pub fn only_bits(s: &[u8]) -> Lent
+    ensures { λ r. ⌜ r ≡ binaryOf (now (s .entry)) ⌝ }
+{
+    if all_binary(s) {
+        return Lent::Fine;
+    }
+    Lent::Refused(Refusal::Symbol)
 }
 
 // A byte as an index.

@@ -11,24 +11,21 @@ use Rattle.bits.specs.Bits.{bit}
 use Rattle.bits.specs.Refusals.{numberOf}
 use Rattle.bits.specs.declared.Refusal.{Refusal}
 use Rattle.bits.specs.declared.Refusal.the-variants.{Symbol, State}
+use Rattle.bits.proofs.Refusing.{never-both}
 use Rattle.coding.specs.Codes.{facch}
 use Rattle.coding.specs.Registers.{Stepped, memoryHigh}
 use Rattle.bts136.specs.declared.Step.{Step}
-use Rattle.bts136.specs.declared.Lent.{Lent}
-use Rattle.bts136.specs.declared.Lent.the-variants.{Fine, Refused}
+use Rattle.bits.specs.declared.Lent.{Lent}
+use Rattle.bits.specs.declared.Lent.the-variants.{Fine, Refused}
 use Rattle.bts136.specs.Flat.{noStep, lentStep, Taken, StepAnswer}
 
 pub refused-step : (why : Refusal) (n : ℕ) → n ≡ numberOf why → record { refusal = n; next = 0; output = replicate 4 0 } ≡ noStep why
 refused-step why n e = ap (λ (k : ℕ). record { refusal = k; next = 0; output = replicate 4 0 }) e
 
 -- ---- Fine says that every test was passed
-pub passed : (t : Bool) (why : Refusal) (x : Lent) → cond t (Refused why) x ≡ Fine → (t ≡ false) × (x ≡ Fine)
-passed true why x e = let z : _≡_ {A = ℕ} 0 1 = cc in absurd (omega arith)
+passed : (t : Bool) (why : Refusal) (x : Lent) → cond t (Refused why) x ≡ Fine → (t ≡ false) × (x ≡ Fine)
+passed true why x e = never-both e refl
 passed false why x e = (refl, e)
-
-pub kept : (t : Bool) (why : Refusal) (x : Lent) → cond t x (Refused why) ≡ Fine → (t ≡ true) × (x ≡ Fine)
-kept true why x e = (refl, e)
-kept false why x e = let z : _≡_ {A = ℕ} 0 1 = cc in absurd (omega arith)
 
 pub fine-step : (state input : ℕ) → lentStep state input ≡ Fine → (state < 32) × (input < 2)
 unfolding lentStep
@@ -45,13 +42,13 @@ module _ {code : List (List Bool)} {memory : ℕ → List Bool} {state input : �
   by-refusal why e er =
       record {
         no-step = λ y ey. let same : y ≡ why = cc in er ∙ ap noStep (sym same);
-        taken = λ ef. let z : _≡_ {A = ℕ} 0 1 = cc in absurd (omega arith);
+        taken = λ ef. never-both ef (sym told ∙ e);
       }
 
   pub by-step : {r : Step} → l ≡ Fine → Taken code memory state input r → StepAnswer code memory state input r
   by-step e t =
       record {
-        no-step = λ y ey. let z : _≡_ {A = ℕ} 0 1 = cc in absurd (omega arith);
+        no-step = λ y ey. never-both e (told ∙ ey);
         taken = λ ef. t;
       }
 

@@ -5,10 +5,10 @@ use mathlib.Core.List.{List, [], _∷_}
 use Prim.Native.Nat.{ℕ, _-_, _/_, _%_}
 use lib.Dec.{eqb, ltb}
 use lib.ListN.{length, take, drop, replicate}
-use Rattle.bits.specs.Bits.{bit, allBinary}
-use Rattle.bits.specs.Refusals.{Answer, accepted, pending, rejected, refused, numberOf, expectedOf, actualOf}
+use Rattle.bits.specs.Bits.{bit}
+use Rattle.bits.specs.Refusals.{Answer, accepted, pending, rejected, refused, numberOf, expectedOf, actualOf, firstOf, exactOf, binaryOf}
 use Rattle.bits.specs.declared.Refusal.{Refusal}
-use Rattle.bits.specs.declared.Refusal.the-variants.{Length, Symbol, State}
+use Rattle.bits.specs.declared.Refusal.the-variants.{Symbol, State}
 use Rattle.coding.specs.Registers.{Stepped}
 use Rattle.coding.specs.declared.checksum.CrcMode.{CrcMode}
 use Rattle.coding.specs.declared.checksum.CrcMode.the-variants.{Broadcast, Addressed}
@@ -16,8 +16,8 @@ use Rattle.trellis.specs.declared.Outcome.{Outcome}
 use Rattle.bts136.specs.declared.Step.{Step}
 use Rattle.bts136.specs.declared.Checksum.{Checksum}
 use Rattle.bts136.specs.declared.Search.{Search}
-use Rattle.bts136.specs.declared.Lent.{Lent}
-use Rattle.bts136.specs.declared.Lent.the-variants.{Fine, Refused}
+use Rattle.bits.specs.declared.Lent.{Lent}
+use Rattle.bits.specs.declared.Lent.the-variants.{Fine, Refused}
 
 -- ---- one step
 abbrev pub noStep : Refusal → Step
@@ -49,13 +49,14 @@ abbrev pub modeOf : Bool → CrcMode
 modeOf broadcast = cond broadcast Broadcast Addressed
 
 -- ---- a search
--- Length where what was received is no number of pairs from 5 to 130, or the word has not a bit for each pair; then Symbol
-unfoldable pub lentBlock : List ℕ → ℕ → Lent
-lentBlock coded steps =
-    cond (ltb (length coded) 10) (Refused (Length 260 (length coded)))
-    (cond (ltb 260 (length coded)) (Refused (Length 260 (length coded)))
-    (cond (eqb (length coded % 2) 1) (Refused (Length 260 (length coded)))
-    (cond (eqb steps (length coded / 2)) (cond (allBinary coded) Fine (Refused Symbol)) (Refused (Length (length coded / 2) steps)))))
+-- Length where a length is no number of pairs from 5 to 130
+unfoldable pub lentPairs : ℕ → Lent
+lentPairs length =
+    cond (ltb length 10) (exactOf 260 length) (cond (ltb 260 length) (exactOf 260 length) (cond (eqb (length % 2) 1) (exactOf 260 length) Fine))
+
+-- what was received, then a bit of the word for each pair, then the symbols
+abbrev pub lentBlock : List ℕ → ℕ → Lent
+lentBlock coded steps = firstOf (lentPairs (length coded)) (firstOf (exactOf (length coded / 2) steps) (binaryOf coded))
 
 abbrev pub noSearch : Refusal → Search
 noSearch why = record { refusal = numberOf why; expected = expectedOf why; actual = actualOf why; metric = 0; tie = false }

@@ -1,9 +1,12 @@
 // The static library for Rust and C: flat functions over the crates below. Each answers a number of document 01, or 0 with its result.
+use bits::Lent;
 use bits::Refusal;
 use bits::actual;
-use bits::all_binary;
+use bits::exact;
 use bits::expected;
+use bits::first;
 use bits::number;
+use bits::only_bits;
 use coding::checksum::Checked;
 use coding::checksum::CrcMode;
 use trellis::Outcome;
@@ -18,7 +21,7 @@ ghost use Rattle.coding.specs.Registers.{memoryHigh, memoryLow};
 ghost use Rattle.trellis.specs.Search.{Found, FoundFirst};
 ghost use Rattle.trellis.specs.Words.{OfLength};
 ghost use Rattle.viterbi.specs.Hard.{Terminated, freeWeight, weight};
-ghost use Rattle.bts136.specs.Flat.{SearchAnswer, StepAnswer, flatChecksum, lentBlock, lentStep, modeOf, noSearch, noStep};
+ghost use Rattle.bts136.specs.Flat.{SearchAnswer, StepAnswer, flatChecksum, lentBlock, lentPairs, lentStep, modeOf, noSearch, noStep};
 
 #[repr(C)]
 pub struct Step {
@@ -41,12 +44,6 @@ pub struct Search {
     pub actual: usize,
     pub metric: u16,
     pub tie: bool,
-}
-
-// Whether a call can go on with what it was lent.
-pub enum Lent {
-    Fine,
-    Refused(Refusal),
 }
 
 // Whether there is such a state and such an input.
@@ -168,30 +165,25 @@ pub extern "C" fn bts136_checksum7(information: &[u8]) -> Checksum
 fn search_refusal(coded: &[u8], steps: usize) -> Lent
     ensures { λ r. ⌜ r ≡ lentBlock (now (coded .entry)) steps ⌝ }
 {
-    let actual = coded.len();
-    if actual < 10 {
-        return wrong_length(260, actual);
-    }
-    if 260 < actual {
-        return wrong_length(260, actual);
-    }
-    if actual % 2 == 1 {
-        return wrong_length(260, actual);
-    }
-    if steps != actual / 2 {
-        return wrong_length(actual / 2, steps);
-    }
-    if all_binary(coded) {
-        Lent::Fine
-    } else {
-        Lent::Refused(Refusal::Symbol)
-    }
+    let length = coded.len();
+    let block = pairs(length);
+    first(block, first(exact(length / 2, steps), only_bits(coded)))
 }
 
-fn wrong_length(expected: usize, actual: usize) -> Lent
-    ensures { λ r. ⌜ r ≡ Lent.Refused (Refusal.Length expected actual) ⌝ }
+// Refused where a length is no number of pairs from 5 to 130.
+fn pairs(length: usize) -> Lent
+    ensures { λ r. ⌜ r ≡ lentPairs length ⌝ }
 {
-    Lent::Refused(Refusal::Length { expected, actual })
+    if length < 10 {
+        return exact(260, length);
+    }
+    if 260 < length {
+        return exact(260, length);
+    }
+    if length % 2 == 1 {
+        return exact(260, length);
+    }
+    Lent::Fine
 }
 
 fn no_search(why: Refusal) -> Search

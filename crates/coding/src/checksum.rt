@@ -69,28 +69,44 @@ fn sent(register: u16, mode: CrcMode) -> u16
     }
 }
 
-// The checksum of information of any length under a colour code.
+// The checksum of information under a colour code, whose eight bits go first.
+pub fn checksum_of_bits(information: &[u8], dvcc: u8, mode: CrcMode) -> u16
+    requires { ⌜ allBinary (now information) ≡ true ⌝ }
+    ensures { λ r. ⌜ r ≡ checksumOf (bits (now (information .entry))) dvcc mode ⌝ }
+{
+    let mut colour = [0u8; 8];
+    unpack(dvcc as u64, &mut colour);
+    let start = run(0, &colour, TOP, CCITT);
+    let register = run(start, information, TOP, CCITT);
+    sent(register, mode)
+}
+
+// The same of bytes of any content; Symbol where one is no bit.
 pub fn checksum(information: &[u8], dvcc: u8, mode: CrcMode) -> Checked
     ensures { λ r. ⌜ answerOf r ≡ ofBits (now (information .entry)) (checksumOf (bits (now (information .entry))) dvcc mode) ⌝ }
 {
     if !all_binary(information) {
         return Checked::Refused(Refusal::Symbol);
     }
-    let mut colour = [0u8; 8];
-    unpack(dvcc as u64, &mut colour);
-    let start = run(0, &colour, TOP, CCITT);
-    let register = run(start, information, TOP, CCITT);
-    let value = sent(register, mode);
+    let value = checksum_of_bits(information, dvcc, mode);
     Checked::Value(value)
 }
 
-// The checksum of a speech frame's information, of any length.
+// The checksum of a speech frame's information.
+pub fn checksum7_of_bits(information: &[u8]) -> u16
+    requires { ⌜ allBinary (now information) ≡ true ⌝ }
+    ensures { λ r. ⌜ r ≡ checksum7Of (bits (now (information .entry))) ⌝ }
+{
+    run(0, information, TOP7, SPEECH)
+}
+
+// The same of bytes of any content; Symbol where one is no bit.
 pub fn checksum7(information: &[u8]) -> Checked
     ensures { λ r. ⌜ answerOf r ≡ ofBits (now (information .entry)) (checksum7Of (bits (now (information .entry)))) ⌝ }
 {
     if !all_binary(information) {
         return Checked::Refused(Refusal::Symbol);
     }
-    let remainder = run(0, information, TOP7, SPEECH);
+    let remainder = checksum7_of_bits(information);
     Checked::Value(remainder)
 }

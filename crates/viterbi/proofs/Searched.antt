@@ -7,7 +7,7 @@ use native.Mathlib.Omega.{arith}
 use lib.ListN.{length, take, drop}
 use lib.Seq.{length-take-le}
 use Rattle.bits.specs.Bits.{bits, allBinary}
-use Rattle.bits.proofs.Lent.{became, became-length}
+use Rattle.bits.proofs.LentPart.{became, became-length}
 use Rattle.trellis.specs.Search.{Found, FoundFirst}
 use Rattle.trellis.specs.Numbering.{newestLow}
 use Rattle.trellis.specs.Words.{Leads, OfLength, wordMetric, freeMetric}

@@ -1,7 +1,7 @@
 -- `viterbi::free` meets its contract: the engine searches the words of the code. Assumes nothing.
 use native.Mathlib.Omega.{arith}
 use lib.ListN.{length}
-use Rattle.bits.proofs.Lent.{part-length, whole-length}
+use Rattle.bits.proofs.LentPart.{part-length, whole-length}
 use Rattle.viterbi.proofs.Searched.{asks-fill, asks-search, found-free}
 use borrow.Author.Needs.{needs}
 use Rattle.viterbi.proofs.free.Statement.{statement}

@@ -1,6 +1,5 @@
--- `coding::checksum::checksum` meets its contract: the colour code and then the information are run from zero. Assumes nothing.
-use native.Mathlib.Omega.{arith}
-use Rattle.coding.proofs.Answers.{are-bits, of-bits, not-bits, colour-binary, value16}
+-- `coding::checksum::checksum` meets its contract: Symbol, or the checksum of the bits. Assumes nothing.
+use Rattle.coding.proofs.Answers.{are-bits, of-bits, not-bits}
 use borrow.Author.Needs.{needs}
 use Rattle.coding.proofs.checksum.checksum.Statement.{statement}
 use Rattle.coding.proofs.checksum.checksum.Tie as tie
@@ -11,45 +10,12 @@ all-binary-requires c κs = search needs
 returns : tie.Need-returns
 returns c = not-bits _ (c .before .all-binary .ensures) _ (c .if1 .taken)
 
-slice-aggregate-unpack : tie.Need-slice-aggregate-unpack
-slice-aggregate-unpack c = search needs
-
-unpack-requires : tie.Need-unpack-requires
-unpack-requires c κs = search needs
-
-slice-aggregate-run : tie.Need-slice-aggregate-run
-slice-aggregate-run c = search needs
-
-run-requires : tie.Need-run-requires
-run-requires c κs = (omega arith, omega arith, colour-binary _ _ (c .before .before .unpack .ensures))
-
-run-requires-2 : tie.Need-run-requires-2
-run-requires-2 c κs =
-    let tested = c .before .before .before .before .before in
-    (omega arith, omega arith, are-bits _ (tested .before .all-binary .ensures) (tested .if1 .left))
-
-sent-requires : tie.Need-sent-requires
-sent-requires c κs = search needs
+checksum-of-bits-requires : tie.Need-checksum-of-bits-requires
+checksum-of-bits-requires c κs = are-bits _ (c .before .all-binary .ensures) (c .if1 .left)
 
 returns-2 : tie.Need-returns-2
-returns-2 c =
-    let unpacked = c .before .before .before .before .before in
-    let tested = unpacked .before .before in
-    let entry = tested .before .before .before .args in
-    of-bits (entry .information .now) (tested .before .all-binary .ensures) (tested .if1 .left)
-    (value16 _ (entry .dvcc) (unpacked .unpack .ensures) (entry .information .now) (entry .mode)
-    (c .before .before .run .ensures) (c .before .run2 .ensures) (c .sent .ensures))
+returns-2 c = of-bits _ (c .before .before .all-binary .ensures) (c .before .if1 .left) (c .checksum-of-bits .ensures)
 
 pub checksum-spec : {M : Type 1} → statement M
 checksum-spec =
-    tie.close
-    (tie.spec
-    all-binary-requires
-    returns
-    slice-aggregate-unpack
-    unpack-requires
-    slice-aggregate-run
-    run-requires
-    run-requires-2
-    sent-requires
-    returns-2)
+    tie.close (tie.spec all-binary-requires returns checksum-of-bits-requires returns-2)

