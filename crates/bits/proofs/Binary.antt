@@ -105,6 +105,12 @@ pub differ-same : (a : Bool) → differ a a ≡ 0
 differ-same false = refl
 differ-same true = refl
 
+pub differ-none : (a b : Bool) → differ a b ≡ 0 → a ≡ b
+differ-none false false e = refl
+differ-none false true e = let z : ⊥ = omega arith in absurd z
+differ-none true false e = let z : ⊥ = omega arith in absurd z
+differ-none true true e = refl
+
 pub differ-other : (a b : Bool) → (a ≡ b → ⊥) → differ a b ≡ 1
 differ-other false false n = absurd (n refl)
 differ-other false true n = refl

@@ -9,6 +9,7 @@ use native.Mathlib.Numerals.{add-one}
 use lib.ListN.{length, getD, drop, drop-of-length-le}
 use lib.Seq.{drop-cons}
 use Rattle.bits.specs.Bits.{tally, bits, bit, disagreements, differ}
+use Rattle.bits.proofs.Binary.{differ-same, differ-none}
 
 module _ {A B : Type 0} (f : A → B → ℕ) where
   pub tally-nil : (xs : List A) → tally f xs [] ≡ 0
@@ -46,3 +47,17 @@ module _ {a b : List ℕ} {n k : ℕ} (i : Counting a b n k) where
   counting-done h =
       let e : disagreements (bits (drop k a)) (bits (drop k b)) ≡ 0 = ap (λ (u : List ℕ). disagreements (bits u) (bits (drop k b))) (drop-of-length-le a h) in
       omega (arith, i .rest)
+
+-- ---- lists of bits that differ nowhere are the same
+pub disagreements-self : (u : List Bool) → disagreements u u ≡ 0
+unfolding tally
+disagreements-self [] = refl
+disagreements-self (b ∷ u) = ap₂ (λ (m n : ℕ). m + n) (differ-same b) (disagreements-self u)
+
+pub disagreements-none : (u w : List Bool) → length u ≡ length w → disagreements u w ≡ 0 → u ≡ w
+unfolding tally
+disagreements-none [] [] l e = refl
+disagreements-none [] (b ∷ w) l e = let z : ⊥ = omega arith in absurd z
+disagreements-none (a ∷ u) [] l e = let z : ⊥ = omega arith in absurd z
+disagreements-none (a ∷ u) (b ∷ w) l e =
+    ap₂ (λ (x : Bool) (r : List Bool). x ∷ r) (differ-none a b (omega arith)) (disagreements-none u w (omega arith) (omega arith))

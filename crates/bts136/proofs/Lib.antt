@@ -1,3 +1,4 @@
 -- The laws.
 pub mod Steps
 pub mod Searches
+pub mod Carried

@@ -1,4 +1,6 @@
 // The static library for Rust and C: flat functions over the crates below. Each answers a number of document 01, or 0 with its result.
+mod blocks;
+
 use bits::Lent;
 use bits::Refusal;
 use bits::actual;
@@ -19,8 +21,8 @@ ghost use Rattle.coding.specs.Checksums.{answerOf, checksum7Of, checksumOf, ofB
 ghost use Rattle.coding.specs.Codes.{acelp, dcch, facch};
 ghost use Rattle.coding.specs.Registers.{memoryHigh, memoryLow};
 ghost use Rattle.trellis.specs.Search.{Found, FoundFirst};
-ghost use Rattle.trellis.specs.Words.{OfLength};
-ghost use Rattle.viterbi.specs.Hard.{Terminated, freeWeight, weight};
+ghost use Rattle.trellis.specs.Words.{OfLength, Terminated};
+ghost use Rattle.viterbi.specs.Hard.{freeWeight, weight};
 ghost use Rattle.bts136.specs.Flat.{SearchAnswer, StepAnswer, flatChecksum, lentBlock, lentPairs, lentStep, modeOf, noSearch, noStep};
 
 #[repr(C)]
@@ -123,7 +125,7 @@ pub extern "C" fn bts136_acelp_transition(state: u8, input: u8) -> Step
     }
 }
 
-fn mode_of(broadcast: bool) -> CrcMode
+pub fn mode_of(broadcast: bool) -> CrcMode
     ensures { λ r. ⌜ r ≡ modeOf broadcast ⌝ }
 {
     if broadcast {

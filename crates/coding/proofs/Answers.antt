@@ -1,15 +1,19 @@
 -- What `checksum` and `checksum7` answer, from what their calls ensure. Assumes nothing.
-use mathlib.Core.Path.{_≡_, refl, sym, ap, _∙_}
+use mathlib.Core.Path.{_≡_, refl, sym, ap, subst, _∙_}
 use mathlib.Core.Bool.{Bool, true, false, cond, not}
 use mathlib.Core.List.{List, _++_}
-use Prim.Native.Nat.{ℕ}
+use Prim.Native.Nat.{ℕ, _^_, _<_}
 use native.Mathlib.Omega.{arith}
+use lib.ListN.{length}
 use Rattle.bits.specs.Bits.{bits, bytes, allBinary}
 use Rattle.bits.specs.Numbers.{packed, unpacked}
 use Rattle.bits.specs.Refusals.{accepted, refused}
 use Rattle.bits.specs.declared.Refusal.the-variants.{Symbol}
 use Rattle.bits.proofs.Binary.{bits-bytes, binary-bytes}
+use Rattle.bits.proofs.Packed.{packed-below}
 use Rattle.coding.specs.declared.checksum.CrcMode.{CrcMode}
+use Rattle.coding.specs.declared.checksum.CrcMode.the-variants.{Broadcast, Addressed}
+use Rattle.coding.proofs.Division.{checkBits-length}
 use Rattle.coding.specs.Checksums.{checkBits, ccitt, complemented, checksumOf, checksum7Of, ofBits}
 use Rattle.coding.proofs.Shifting.{Remains, run-once, run-twice}
 
@@ -49,3 +53,15 @@ module _ (w : List ℕ) (dvcc : ℕ) (colour : w ≡ bytes (unpacked 8 dvcc)) wh
 pub value7 : (l : List ℕ) {r : ℕ} → Remains 64 55 0 (bits l) r → r ≡ checksum7Of (bits l)
 unfolding checksum7Of unpacked
 value7 l e = run-once 7 refl (omega arith) (bits l) e
+
+-- ---- a checksum has 16 bits
+complement-below : (mode : CrcMode) (x : ℕ) → x < 65536 → complemented mode x < 65536
+complement-below Broadcast x h = omega arith
+complement-below Addressed x h = h
+
+pub checksum-below : (information : List Bool) (dvcc : ℕ) (mode : CrcMode) → checksumOf information dvcc mode < 65536
+unfolding checksumOf
+checksum-below information dvcc mode =
+    let u : List Bool = checkBits ccitt (unpacked 8 dvcc ++ information) in
+    let l : length u ≡ 16 = checkBits-length ccitt (unpacked 8 dvcc ++ information) in
+    complement-below mode (packed u) (subst (λ (n : ℕ). packed u < 2 ^ n) l (packed-below u))

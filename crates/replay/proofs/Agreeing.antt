@@ -13,7 +13,7 @@ use Rattle.bits.proofs.Lent.{part-length, whole-length, became}
 use Rattle.coding.specs.Registers.{Stepped}
 use Rattle.trellis.specs.Search.{FoundFirst}
 use Rattle.trellis.specs.declared.Outcome.{Outcome}
-use Rattle.viterbi.specs.Hard.{Terminated}
+use Rattle.trellis.specs.Words.{Terminated}
 use Rattle.replay.specs.Lines.{LineEnd, bitsIn, shaped}
 use Rattle.replay.specs.Calls.{Agreed, Replayed, Searched, StepLine, digitAt, ended, line, twoAt}
 use Rattle.replay.proofs.Reading.{shaped-length}

@@ -13,7 +13,8 @@ use Rattle.coding.specs.declared.checksum.CrcMode.{CrcMode}
 use Rattle.coding.specs.declared.checksum.CrcMode.the-variants.{Broadcast, Addressed}
 use Rattle.trellis.specs.Search.{FoundFirst}
 use Rattle.trellis.specs.declared.Outcome.{Outcome}
-use Rattle.viterbi.specs.Hard.{Terminated, weight}
+use Rattle.trellis.specs.Words.{Terminated}
+use Rattle.viterbi.specs.Hard.{weight}
 use Rattle.replay.specs.Lines.{LineEnd, bitsIn, digitOf, shaped}
 
 -- the digit at a place of a line, and the number of two digits there

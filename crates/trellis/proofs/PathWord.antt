@@ -8,7 +8,7 @@ use native.Mathlib.Omega.{arith}
 use lib.ListN.{length, take, replicate, length-replicate, length-append}
 use lib.Seq.{take-append-le, take-at}
 use Rattle.trellis.specs.Numbering.{Numbering}
-use Rattle.trellis.specs.Words.{stateAfter, wordMetric, Leads}
+use Rattle.trellis.specs.Words.{stateAfter, wordMetric, Leads, Terminated}
 use Rattle.trellis.specs.Trellis.{Trellis, wholes, origin, pathMetric, stateMetric, survivor, word}
 use Rattle.trellis.proofs.Registers.{Register}
 use Rattle.trellis.proofs.Optimal as opt
@@ -98,6 +98,20 @@ module _ (N : Numbering) (reg : Register N) where
         ends = reg .memory-one (stateAfter N s u) t (state-below s u hs) ht
             (sym (last-five s u hs (omega arith)) ∙ take-at (N .memory t) (replicate (n - 5) false) 5 (reg .five t));
       }
+
+  -- where state 0 holds zeros, the words from state 0 to state 0 are those that end in five zeros
+  module _ (zeros : N .memory 0 ≡ replicate 5 false) (n : ℕ) (h5 : 5 ≤ n) where
+    pub leads-terminated : (u : List Bool) → Leads N 0 0 n u → Terminated n u
+    leads-terminated u h =
+        record { steps = h .steps; tail = last-five 0 u (omega arith) (omega (arith, h .steps)) ∙ ap (N .memory) (h .ends) ∙ zeros }
+
+    pub terminated-leads : (u : List Bool) → Terminated n u → Leads N 0 0 n u
+    terminated-leads u h =
+        record {
+          steps = h .steps;
+          ends = reg .memory-one (stateAfter N 0 u) 0 (state-below 0 u (omega arith)) (omega arith)
+              (sym (last-five 0 u (omega arith) (omega (arith, h .steps))) ∙ h .tail ∙ sym zeros);
+        }
 
   module _ (branch : ℕ → ℕ → Bool → ℕ) where
     pub word-bound : (steps d : ℕ) → ((k s : ℕ) (b : Bool) → k < steps → s < 32 → branch k s b ≤ d) → (s : ℕ) (u : List Bool) → s < 32 → length u ≤ steps

@@ -62,10 +62,9 @@ module _ {Word Word' : List Bool → Type 0} {weight weight' : List Bool → ℕ
         alone = λ a. f .alone (ambiguous-from a);
       }
 
+  pub first-to : (w : List Bool) → First Word weight w → First Word' weight' w
+  first-to w f = record { nearest = nearest-to w (f .nearest); first = λ u n. f .first u (nearest-from u n) }
+
   pub found-first-to : (bits : List ℕ) (r : Outcome) → FoundFirst Word weight bits r → FoundFirst Word' weight' bits r
   unfolding found-to
-  found-first-to bits r f =
-      record {
-        found = found-to bits r (f .found);
-        first = record { nearest = nearest-to (f .found .word) (f .first .nearest); first = λ u n. f .first .first u (nearest-from u n) };
-      }
+  found-first-to bits r f = record { found = found-to bits r (f .found); first = first-to (f .found .word) (f .first) }

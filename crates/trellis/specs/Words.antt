@@ -1,10 +1,10 @@
 -- Words through a trellis: lists of inputs, newest first, and the sums of their branch metrics.
 use mathlib.Core.Path.{_≡_}
-use mathlib.Core.Bool.{Bool, cond}
+use mathlib.Core.Bool.{Bool, false, cond}
 use mathlib.Core.List.{List, [], _∷_}
 use Prim.Native.Nat.{ℕ, zero, suc, _+_, _*_}
 use lib.Dec.{ltb}
-use lib.ListN.{length, drop}
+use lib.ListN.{length, take, drop, replicate}
 use Rattle.bits.specs.Bits.{tally}
 use Rattle.coding.specs.Codes.{outputs}
 use Rattle.trellis.specs.Numbering.{Numbering}
@@ -22,6 +22,11 @@ pub record Leads (N : Numbering) (s t n : ℕ) (w : List Bool) : Type 0 where
 -- all words of n inputs
 abbrev pub OfLength : ℕ → List Bool → Type 0
 OfLength n w = length w ≡ n
+
+-- the words of n inputs that end in five zeros
+pub record Terminated (n : ℕ) (w : List Bool) : Type 0 where
+  pub steps : length w ≡ n
+  pub tail : take 5 w ≡ replicate 5 false
 
 -- the least of f 0 to f n
 unfoldable pub leastUpTo : ℕ → (ℕ → ℕ) → ℕ

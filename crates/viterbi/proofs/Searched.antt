@@ -1,5 +1,5 @@
 -- The two searches: what they ask of the engine, with the symbols in a lent part of an array, and what they find. Assumes nothing.
-use mathlib.Core.Path.{_≡_, sym, subst, _∙_}
+use mathlib.Core.Path.{_≡_, refl, sym, subst, _∙_}
 use mathlib.Core.Bool.{Bool, true}
 use mathlib.Core.List.{List, _++_}
 use Prim.Native.Nat.{ℕ, _*_, _<_, _≤_}
@@ -10,14 +10,16 @@ use Rattle.bits.specs.Bits.{bits, allBinary}
 use Rattle.bits.proofs.LentPart.{became, became-length}
 use Rattle.trellis.specs.Search.{Found, FoundFirst}
 use Rattle.trellis.specs.Numbering.{newestLow}
-use Rattle.trellis.specs.Words.{Leads, OfLength, wordMetric, freeMetric}
+use Rattle.trellis.specs.Words.{Leads, OfLength, Terminated, wordMetric, freeMetric}
 use Rattle.trellis.specs.Engine.{Rows, branchBy}
 use Rattle.trellis.specs.declared.Outcome.{Outcome}
+use Rattle.trellis.proofs.Registers.{register-low}
+use Rattle.trellis.proofs.PathWord.{leads-terminated, terminated-leads}
 use Rattle.trellis.proofs.Searching.{found-to, found-first-to}
-use Rattle.viterbi.specs.Hard.{Terminated, weight, freeWeight}
+use Rattle.viterbi.specs.Hard.{weight, freeWeight}
 use Rattle.viterbi.specs.Rows.{PairsTo, SymbolsTo}
 use Rattle.viterbi.proofs.Branches.{branches, modest}
-use Rattle.viterbi.proofs.Weights.{leads-terminated, terminated-leads, metric-weight, free-weight}
+use Rattle.viterbi.proofs.Weights.{metric-weight, free-weight}
 
 pub asks-fill : (n : ℕ) (coded l : List ℕ) → n ≤ 130 → n ≤ length l → length coded ≡ n * 2 → allBinary coded ≡ true
     → (length (take n l) ≤ 130) × (length coded ≡ length (take n l) * 2) × (allBinary coded ≡ true)
@@ -45,7 +47,7 @@ module _ (coded : List ℕ) (rows : List (List ℕ)) (n : ℕ) (four : length ro
       → FoundFirst (Leads newestLow 0 0 (length (take n (symbols ++ drop n l)))) (wordMetric newestLow (branchBy rows (take n (symbols ++ drop n l))) 0) word r
       → FoundFirst (Terminated n) (weight (bits coded)) word r
   found-terminated h5 word r f =
-      found-first-to (leads-terminated n h5) (terminated-leads n h5)
+      found-first-to (leads-terminated newestLow register-low refl n h5) (terminated-leads newestLow register-low refl n h5)
       (λ u h. metric-weight (branchBy rows symbols) (bits coded) n (branches coded symbols rows n four size twice binary pairs read-all) 0 u (omega arith) (omega (arith, h .steps)))
       word r
       (subst (λ (m : ℕ). FoundFirst (Leads newestLow 0 0 m) (wordMetric newestLow (branchBy rows symbols) 0) word r) size

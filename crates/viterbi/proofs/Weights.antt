@@ -10,30 +10,12 @@ use Rattle.coding.specs.Codes.{coded, dcch}
 use Rattle.coding.specs.Registers.{memoryHigh, memoryLow, mirror}
 use Rattle.coding.proofs.Mirror.{mirror-memory, mirror-mirror, mirror-below}
 use Rattle.trellis.specs.Numbering.{newestLow}
-use Rattle.trellis.specs.Words.{Leads, OfLength, wordMetric, freeMetric, leastUpTo, stateAfter, branchOf}
+use Rattle.trellis.specs.Words.{wordMetric, freeMetric, branchOf}
 use Rattle.trellis.proofs.Registers.{register-low, same-numbers}
 use Rattle.trellis.proofs.Renumber.{metric-same}
 use Rattle.trellis.proofs.FreeStart.{least-same}
-use Rattle.trellis.proofs.PathWord.{last-five, state-below}
 use Rattle.trellis.proofs.Distance.{distance}
-use Rattle.viterbi.specs.Hard.{Terminated, weightFrom, weight, freeWeight}
-
--- ---- words that lead from state 0 to state 0 are those that end in five zeros
-module _ (n : ℕ) (h5 : 5 ≤ n) where
-  pub leads-terminated : (u : List Bool) → Leads newestLow 0 0 n u → Terminated n u
-  leads-terminated u h =
-      record {
-        steps = h .steps;
-        tail = last-five newestLow register-low 0 u (omega arith) (omega (arith, h .steps)) ∙ ap (newestLow .memory) (h .ends);
-      }
-
-  pub terminated-leads : (u : List Bool) → Terminated n u → Leads newestLow 0 0 n u
-  terminated-leads u h =
-      record {
-        steps = h .steps;
-        ends = register-low .memory-one (stateAfter newestLow 0 u) 0 (state-below newestLow register-low 0 u (omega arith)) (omega arith)
-            (sym (last-five newestLow register-low 0 u (omega arith) (omega (arith, h .steps))) ∙ h .tail);
-      }
+use Rattle.viterbi.specs.Hard.{weightFrom, freeWeight}
 
 -- ---- weights, from a state
 module _ (branch : ℕ → ℕ → Bool → ℕ) (received : List Bool) (n : ℕ)

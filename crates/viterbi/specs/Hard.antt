@@ -1,18 +1,11 @@
 -- Hard-decision searches of the code of DCCH, SACCH and VSELP. A word is its inputs, newest first.
-use mathlib.Core.Path.{_≡_}
-use mathlib.Core.Bool.{Bool, false}
+use mathlib.Core.Bool.{Bool}
 use mathlib.Core.List.{List, reverse}
 use Prim.Native.Nat.{ℕ}
-use lib.ListN.{length, take, replicate}
 use Rattle.bits.specs.Bits.{disagreements}
 use Rattle.coding.specs.Codes.{coded, dcch}
 use Rattle.coding.specs.Registers.{memoryHigh}
 use Rattle.trellis.specs.Words.{leastUpTo}
-
--- the words of n inputs, the last five of them zeros
-pub record Terminated (n : ℕ) (w : List Bool) : Type 0 where
-  pub steps : length w ≡ n
-  pub tail : take 5 w ≡ replicate 5 false
 
 -- in how many places the coded bits of a word, that follow the inputs of a memory, differ from what was received
 unfoldable pub weightFrom : List Bool → List Bool → List Bool → ℕ

@@ -9,8 +9,8 @@ ghost use Prim.Native.Nat.{_*_, _<_, _≤_};
 ghost use lib.ListN.{length};
 ghost use Rattle.bits.specs.Bits.{allBinary, bit, bits};
 ghost use Rattle.trellis.specs.Search.{Found, FoundFirst};
-ghost use Rattle.trellis.specs.Words.{OfLength};
-ghost use Rattle.viterbi.specs.Hard.{Terminated, freeWeight, weight};
+ghost use Rattle.trellis.specs.Words.{OfLength, Terminated};
+ghost use Rattle.viterbi.specs.Hard.{freeWeight, weight};
 ghost use Rattle.viterbi.specs.Rows.{DistancesTo, OutputsTo, PairsTo, SymbolsTo, registerAt};
 
 // The generators as the engine numbers its states, the newest input lowest.

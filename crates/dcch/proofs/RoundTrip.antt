@@ -1,0 +1,120 @@
+-- `decode` of `encode` is the information, corrected 0: the word of the block weighs nothing, and no other word has its coded bits.
+-- Assumes nothing.
+use mathlib.Core.Path.{_≡_, refl, sym, ap, ap₂, subst, _∙_}
+use mathlib.Core.Bool.{Bool, true, false, cond}
+use mathlib.Core.List.{List, _++_, reverse, reverse-append, reverse-reverse}
+use Prim.Native.Nat.{ℕ, _+_, _*_, _/_, _≤_, _<_}
+use native.Mathlib.Omega.{arith}
+use lib.Dec.{eqb}
+use lib.ListN.{length, take, drop, replicate, length-append, length-reverse, length-map}
+use lib.Seq.{take-at, drop-at}
+use borrow.Author.Tests.{eq-eqb}
+use Rattle.bits.specs.Bits.{byte, bits, bytes, disagreements}
+use Rattle.bits.specs.Numbers.{packed, unpacked}
+use Rattle.bits.specs.Refusals.{accepted, exactOf, binaryOf, firstOf}
+use Rattle.bits.specs.declared.Lent.the-variants.{Fine, Refused}
+use Rattle.bits.specs.declared.Refusal.the-variants.{Symbol}
+use Rattle.bits.proofs.Binary.{bits-bytes, binary-bytes}
+use Rattle.bits.proofs.Packed.{packed-unpacked-below, unpacked-length}
+use Rattle.bits.proofs.Tally.{disagreements-self, disagreements-none}
+use Rattle.coding.specs.Codes.{coded, dcch}
+use Rattle.coding.specs.Registers.{memoryHigh}
+use Rattle.coding.specs.Checksums.{checksumOf}
+use Rattle.coding.specs.declared.checksum.CrcMode.{CrcMode}
+use Rattle.coding.proofs.Coded.{coded-length}
+use Rattle.coding.proofs.Unique.{same-start}
+use Rattle.coding.proofs.Answers.{checksum-below}
+use Rattle.trellis.specs.Search.{First}
+use Rattle.trellis.specs.Words.{Terminated}
+use Rattle.viterbi.specs.Hard.{weight, weightFrom}
+use Rattle.dcch.specs.declared.BlockFormat.{BlockFormat}
+use Rattle.dcch.specs.declared.Decoded.{Decoded}
+use Rattle.dcch.specs.Formats.{encodedBits, informationBits}
+use Rattle.dcch.specs.Wire.{interleaved, deinterleaved}
+use Rattle.dcch.specs.Blocks.{inputsOf, cellsOf, blockOf, sound, lentDecode, decodeAnswer, Settled, Decoding}
+use Rattle.dcch.proofs.Interleaved.{interleaved-length, deinterleaved-interleaved}
+use Rattle.dcch.proofs.Encodings.{format-sizes}
+
+exact-fine : (n m : ℕ) → n ≡ m → exactOf n m ≡ Fine
+exact-fine n m e = rw (eq-eqb n m e)
+
+module _ (f : BlockFormat) (information : List Bool) (size : length information ≡ informationBits f) (dvcc : ℕ) (mode : CrcMode) where
+  inputs : List Bool
+  inputs = inputsOf information (checksumOf information dvcc mode)
+
+  cells : List Bool
+  cells = cellsOf information dvcc mode
+
+  inputs-length : length inputs ≡ length information + 21
+  unfolding inputs inputsOf
+  inputs-length =
+      length-append information (unpacked 16 (checksumOf information dvcc mode) ++ replicate 5 false)
+      ∙ ap (λ (n : ℕ). length information + n) (length-append (unpacked 16 (checksumOf information dvcc mode)) (replicate 5 false) ∙ ap (λ (n : ℕ). n + 5) (unpacked-length 16 (checksumOf information dvcc mode)))
+
+  cells-length : length cells ≡ encodedBits f
+  unfolding cells cellsOf inputs
+  cells-length = coded-length dcch (memoryHigh 0) inputs ∙ omega (arith, inputs-length, size, format-sizes f .0)
+
+  -- the block's own word
+  own : Terminated (encodedBits f / 2) (reverse inputs)
+  unfolding inputs inputsOf
+  own =
+      record {
+        steps = length-reverse inputs ∙ omega (arith, inputs-length, size, format-sizes f .0);
+        tail =
+            ap (take 5) (reverse-append information (unpacked 16 (checksumOf information dvcc mode) ++ replicate 5 false)
+            ∙ ap (λ (l : List Bool). l ++ reverse information) (reverse-append (unpacked 16 (checksumOf information dvcc mode)) (replicate 5 false)));
+      }
+
+  own-weight : weight cells (reverse inputs) ≡ 0
+  unfolding weightFrom cells cellsOf inputs
+  own-weight = ap (λ (u : List Bool). disagreements (coded dcch (memoryHigh 0) u) cells) (reverse-reverse inputs) ∙ disagreements-self cells
+
+  -- a word that weighs nothing is the block's own
+  only-own : (w : List Bool) → Terminated (encodedBits f / 2) w → weight cells w ≡ 0 → reverse w ≡ inputs
+  unfolding weightFrom cells cellsOf inputs
+  only-own w t e =
+      same-start (memoryHigh 0) (reverse w) inputs
+      (disagreements-none (coded dcch (memoryHigh 0) (reverse w)) cells
+      (coded-length dcch (memoryHigh 0) (reverse w) ∙ omega (arith, length-reverse w, t .steps, cells-length, format-sizes f .0)) e)
+
+  received : deinterleaved f false (bits (bytes (blockOf f information dvcc mode))) ≡ cells
+  unfolding blockOf cells
+  received = ap (deinterleaved f false) (bits-bytes (interleaved f false cells)) ∙ deinterleaved-interleaved f false cells cells-length
+
+  front : (n : ℕ) → n ≡ length information → take n inputs ≡ information
+  unfolding inputs inputsOf
+  front n e = ap (λ (k : ℕ). take k inputs) e ∙ take-at information (unpacked 16 (checksumOf information dvcc mode) ++ replicate 5 false) (length information) refl
+
+  -- the checksum in the inputs is right
+  sound-own : (n : ℕ) → n ≡ length information → sound n inputs dvcc mode ≡ true
+  unfolding sound inputs inputsOf
+  sound-own n e =
+      let c : ℕ = checksumOf information dvcc mode in
+      let back : drop n inputs ≡ unpacked 16 c ++ replicate 5 false = ap (λ (k : ℕ). drop k inputs) e ∙ drop-at information (unpacked 16 c ++ replicate 5 false) (length information) refl in
+      let sent : packed (take 16 (drop n inputs)) ≡ c =
+      ap (λ (l : List Bool). packed (take 16 l)) back ∙ ap packed (take-at (unpacked 16 c) (replicate 5 false) 16 (unpacked-length 16 c)) ∙ packed-unpacked-below 16 c (checksum-below information dvcc mode) in
+      ap (λ (u : List Bool). eqb (packed (take 16 (drop n inputs))) (checksumOf u dvcc mode)) (front n e) ∙ eq-eqb (packed (take 16 (drop n inputs))) c sent
+
+  fine : (n : ℕ) → n ≡ informationBits f → lentDecode f (bytes (blockOf f information dvcc mode)) n ≡ Fine
+  unfolding blockOf
+  fine n e =
+      let block : List ℕ = bytes (interleaved f false (cellsOf information dvcc mode)) in
+      let l : length block ≡ encodedBits f = length-map (interleaved f false (cellsOf information dvcc mode)) byte ∙ interleaved-length f false (cellsOf information dvcc mode) in
+      let b : binaryOf block ≡ Fine = ap (λ (t : Bool). cond t Fine (Refused Symbol)) (binary-bytes (interleaved f false (cellsOf information dvcc mode))) in
+      ap₂ firstOf (exact-fine (encodedBits f) (length block) (sym l)) (ap₂ firstOf (exact-fine (informationBits f) n (sym e)) b)
+
+  pub round-trip : (information₀ information′ : List ℕ) (r : Decoded) → length information₀ ≡ informationBits f
+      → Decoding f (bytes (blockOf f information dvcc mode)) dvcc mode information₀ information′ r
+      → (decodeAnswer r ≡ accepted 0) × (information′ ≡ bytes information)
+  round-trip information₀ information′ r l d =
+      let s : Settled f (bytes (blockOf f information dvcc mode)) dvcc mode information₀ information′ r = d .settled (fine (length information₀) l) in
+      let w : List Bool = s .word in
+      let first : First (Terminated (encodedBits f / 2)) (weight cells) w =
+      subst (λ (u : List Bool). First (Terminated (encodedBits f / 2)) (weight u) w) received (s .first) in
+      let zero : weight cells w ≡ 0 = omega (arith, first .nearest .least (reverse inputs) own, own-weight) in
+      let same : reverse w ≡ inputs = only-own w (first .nearest .word) zero in
+      let taken = s .finished .taken (ap (λ (u : List Bool). sound (length information₀) u dvcc mode) same ∙ sound-own (length information₀) (l ∙ sym size)) in (
+        taken .0 ∙ ap accepted (ap (λ (u : List Bool). weight u w) received ∙ zero),
+        taken .1 ∙ ap bytes (ap (take (length information₀)) same ∙ front (length information₀) (l ∙ sym size)),
+      )

@@ -1,0 +1,51 @@
+-- Decoding of a block of reliabilities. The Rust decides the arithmetic: soft/specs/Soft.antt.
+use mathlib.Core.Path.{_≡_}
+use mathlib.Core.Bool.{Bool, true, false}
+use mathlib.Core.List.{List, reverse}
+use Prim.Native.Nat.{ℕ, _+_}
+use lib.ListN.{length}
+use lib.Ieee.{Float, nan}
+use Rattle.bits.specs.Bits.{bytes}
+use Rattle.bits.specs.Refusals.{refused, firstOf, exactOf}
+use Rattle.bits.specs.declared.Lent.{Lent}
+use Rattle.bits.specs.declared.Lent.the-variants.{Fine, Refused}
+use Rattle.bits.specs.declared.Refusal.{Refusal}
+use Rattle.bits.specs.declared.Refusal.the-variants.{Crc}
+use Rattle.coding.specs.Codes.{coded, dcch}
+use Rattle.coding.specs.Registers.{memoryHigh}
+use Rattle.coding.specs.declared.checksum.CrcMode.{CrcMode}
+use Rattle.trellis.specs.Search.{First}
+use Rattle.trellis.specs.Words.{Terminated}
+use Rattle.soft.specs.Reliability.{allFinite, AllWhole, signCount}
+use Rattle.soft.specs.RustOrder.{rustBits}
+use Rattle.soft.specs.Soft.{softWord, totalCost}
+use Rattle.dcch.specs.declared.BlockFormat.{BlockFormat}
+use Rattle.dcch.specs.declared.Decoded.{Decoded}
+use Rattle.dcch.specs.Formats.{encodedBits, informationBits}
+use Rattle.dcch.specs.Wire.{deinterleaved}
+use Rattle.dcch.specs.Blocks.{decodeAnswer, Finished}
+
+-- a block and room for the information: each length
+abbrev pub lentSoft : BlockFormat → ℕ → ℕ → Lent
+lentSoft f block room = firstOf (exactOf (encodedBits f) block) (exactOf (informationBits f) room)
+
+-- the corrected bits of a word's inputs: its coded bits that differ from the signs; a zero reads as a zero
+unfoldable pub signsOf : List Bool → List Float → ℕ
+signsOf inputs values = signCount (coded dcch (memoryHigh 0) inputs) values
+
+-- The end of a soft decoding of cells: the word is the survivor's over doubles, which is what the Rust reads back where all are finite, and,
+-- where all are whole numbers of size at most 2 ^ 40, the first of the words of least total cost among all that end in five zeros.
+pub record SoftEnd (cells : List Float) (dvcc : ℕ) (mode : CrcMode) (information₀ information : List ℕ) (r : Decoded) : Type 0 where
+  pub word : List Bool
+  pub survivor : word ≡ softWord cells (length information₀ + 21)
+  pub rust : allFinite cells ≡ true → bytes (reverse word) ≡ rustBits cells (length information₀ + 21)
+  pub nearest : AllWhole cells → First (Terminated (length information₀ + 21)) (totalCost cells) word
+  pub finished : Finished (reverse word) (signsOf (reverse word) cells) dvcc mode information₀ information r
+
+-- lengths, then Crc where a reliability is a NaN or an infinity, then the search of the cells; they are finite or whole numbers where the block's are
+pub record SoftDecoding (f : BlockFormat) (block : List Float) (dvcc : ℕ) (mode : CrcMode) (information₀ information : List ℕ) (r : Decoded) : Type 0 where
+  pub declined : (why : Refusal) → lentSoft f (length block) (length information₀) ≡ Refused why → (decodeAnswer r ≡ refused why) × (information ≡ information₀)
+  pub unreadable : lentSoft f (length block) (length information₀) ≡ Fine → allFinite block ≡ false → (decodeAnswer r ≡ refused Crc) × (information ≡ information₀)
+  pub settled : lentSoft f (length block) (length information₀) ≡ Fine → allFinite block ≡ true → SoftEnd (deinterleaved f nan block) dvcc mode information₀ information r
+  pub finite : lentSoft f (length block) (length information₀) ≡ Fine → allFinite block ≡ true → allFinite (deinterleaved f nan block) ≡ true
+  pub whole : lentSoft f (length block) (length information₀) ≡ Fine → AllWhole block → AllWhole (deinterleaved f nan block)

@@ -1,0 +1,11 @@
+-- The laws.
+pub mod Tests
+pub mod Signs
+pub mod Costs
+pub mod Butterflies
+pub mod Running
+pub mod Tracing
+pub mod ScanOrder
+pub mod RustOrder
+pub mod Exactness
+pub mod Samples
