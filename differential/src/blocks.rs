@@ -95,7 +95,12 @@ impl Ends {
     }
     pub fn block(self, p: &mut Prng, kind: Kind, steps: usize) -> Vec<bool> {
         let (start, word) = (self.start(p), self.word(p, steps));
-        let mut coded = code(start, &word);
+        self.around(p, kind, start, &word)
+    }
+    /// A block of that kind made from this word.
+    pub fn around(self, p: &mut Prng, kind: Kind, start: u8, word: &[bool]) -> Vec<bool> {
+        let steps = word.len();
+        let mut coded = code(start, word);
         match kind {
             Kind::Clean => {}
             Kind::Damaged => {
@@ -109,7 +114,7 @@ impl Ends {
             }
             Kind::Noise => coded.fill_with(|| p.bit()),
             Kind::Near => go_halfway(p, &mut coded, |p| {
-                code(start, &neighbour(p, &word, self.open(steps)))
+                code(start, &neighbour(p, word, self.open(steps)))
             }),
             Kind::Far => go_halfway(p, &mut coded, |p| code(self.start(p), &self.word(p, steps))),
         }

@@ -1,13 +1,18 @@
 //! The Rust of 136-bts, unchanged, beside the port of it that is linked as an archive, and what
 //! the tests, the benchmark and the recorder share.
 pub mod blocks;
+pub mod channel;
 pub mod codec;
 pub mod lent;
 #[cfg(osmocore)]
 pub mod osmo;
 pub mod phy;
 pub mod port;
+pub mod port_soft;
 pub mod prng;
 pub mod reference;
+pub mod reference_soft;
+pub mod reliabilities;
 pub mod tally;
 pub mod timing;
+pub mod verdict;

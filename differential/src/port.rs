@@ -1,6 +1,7 @@
 //! The port: the functions of the archive as C sees them, and a safe wrapper of each. Bits are
 //! bytes of 0 or 1. A refusal is 0 or a number of the scope's table: 1 a length, 2 a byte that is
-//! no bit, 8 a state.
+//! no bit, 3 a checksum, 8 a state.
+use crate::phy::dcch::BlockFormat;
 
 /// One step of a convolutional code. Outputs that the code does not have are 0.
 #[repr(C)]
@@ -30,6 +31,20 @@ pub struct Search {
     pub tie: bool,
 }
 
+/// A DCCH block coded or decoded: how many coded bits were corrected. With refusal 1, the length
+/// that was expected and the one that came.
+#[repr(C)]
+#[derive(Clone, Copy, Debug, PartialEq, Eq)]
+pub struct Block {
+    pub refusal: u8,
+    pub expected: usize,
+    pub actual: usize,
+    pub corrected: u16,
+}
+
+/// Input and its length, DVCC, Broadcast, output and its length.
+type BlockCall = unsafe extern "C" fn(*const u8, usize, u8, bool, *mut u8, usize) -> Block;
+
 unsafe extern "C" {
     safe fn bts136_dcch_transition(state: u8, input: u8) -> Step;
     safe fn bts136_facch_transition(state: u8, input: u8) -> Step;
@@ -44,6 +59,54 @@ unsafe extern "C" {
         word: *mut u8,
         word_len: usize,
     ) -> Search;
+    fn bts136_dcch_encode_forward(
+        information: *const u8,
+        information_len: usize,
+        dvcc: u8,
+        broadcast: bool,
+        block: *mut u8,
+        block_len: usize,
+    ) -> Block;
+    fn bts136_dcch_encode_reverse_normal(
+        information: *const u8,
+        information_len: usize,
+        dvcc: u8,
+        broadcast: bool,
+        block: *mut u8,
+        block_len: usize,
+    ) -> Block;
+    fn bts136_dcch_encode_reverse_abbreviated(
+        information: *const u8,
+        information_len: usize,
+        dvcc: u8,
+        broadcast: bool,
+        block: *mut u8,
+        block_len: usize,
+    ) -> Block;
+    fn bts136_dcch_decode_forward(
+        block: *const u8,
+        block_len: usize,
+        dvcc: u8,
+        broadcast: bool,
+        information: *mut u8,
+        information_len: usize,
+    ) -> Block;
+    fn bts136_dcch_decode_reverse_normal(
+        block: *const u8,
+        block_len: usize,
+        dvcc: u8,
+        broadcast: bool,
+        information: *mut u8,
+        information_len: usize,
+    ) -> Block;
+    fn bts136_dcch_decode_reverse_abbreviated(
+        block: *const u8,
+        block_len: usize,
+        dvcc: u8,
+        broadcast: bool,
+        information: *mut u8,
+        information_len: usize,
+    ) -> Block;
 }
 
 pub fn dcch_transition(state: u8, input: u8) -> Step {
@@ -74,4 +137,45 @@ pub fn viterbi(coded: &[u8], word: &mut [u8]) -> Search {
 /// The nearest word of the DCCH code from any state to any state.
 pub fn viterbi_free(coded: &[u8], word: &mut [u8]) -> Search {
     unsafe { bts136_viterbi_free(coded.as_ptr(), coded.len(), word.as_mut_ptr(), word.len()) }
+}
+
+fn block_call(
+    call: BlockCall,
+    input: &[u8],
+    dvcc: u8,
+    broadcast: bool,
+    output: &mut [u8],
+) -> Block {
+    let (out, out_len) = (output.as_mut_ptr(), output.len());
+    unsafe { call(input.as_ptr(), input.len(), dvcc, broadcast, out, out_len) }
+}
+
+pub fn dcch_encode(
+    format: BlockFormat,
+    information: &[u8],
+    dvcc: u8,
+    broadcast: bool,
+    block: &mut [u8],
+) -> Block {
+    let call = match format {
+        BlockFormat::Forward => bts136_dcch_encode_forward,
+        BlockFormat::ReverseNormal => bts136_dcch_encode_reverse_normal,
+        BlockFormat::ReverseAbbreviated => bts136_dcch_encode_reverse_abbreviated,
+    };
+    block_call(call, information, dvcc, broadcast, block)
+}
+
+pub fn dcch_decode(
+    format: BlockFormat,
+    block: &[u8],
+    dvcc: u8,
+    broadcast: bool,
+    information: &mut [u8],
+) -> Block {
+    let call = match format {
+        BlockFormat::Forward => bts136_dcch_decode_forward,
+        BlockFormat::ReverseNormal => bts136_dcch_decode_reverse_normal,
+        BlockFormat::ReverseAbbreviated => bts136_dcch_decode_reverse_abbreviated,
+    };
+    block_call(call, block, dvcc, broadcast, information)
 }

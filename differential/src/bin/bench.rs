@@ -3,13 +3,15 @@
 //! are made before; what the Rust allocates in a call is its own.
 //!
 //! `bench list` prints the names, `bench NAME N` makes N calls of one, for an instruction counter.
-use differential::blocks::{Ends, bytes, code, flip};
+use differential::blocks::{Ends, Kind, bytes, code, flip};
+use differential::channel::Channel;
 #[cfg(osmocore)]
 use differential::osmo::Osmo;
-use differential::phy::dcch::{CrcMode, probe};
-use differential::phy::{acelp_cc1, sacch};
+use differential::phy::dcch::{BlockFormat, CrcMode, probe};
+use differential::phy::{acelp_cc1, dcch, sacch};
 use differential::port;
 use differential::prng::Prng;
+use differential::reliabilities::Sizes;
 use differential::timing::{Contender, times};
 use std::env::args;
 use std::hint::black_box;
@@ -19,6 +21,11 @@ const SEED: u64 = 4242;
 /// Inputs of each case, taken in turn.
 const INPUTS: usize = 64;
 const DVCC: u8 = 0x5a;
+const FORWARD: Channel = Channel {
+    format: BlockFormat::Forward,
+    dvcc: DVCC,
+    mode: CrcMode::Addressed,
+};
 
 struct Case {
     name: String,
@@ -47,14 +54,14 @@ fn stop(message: &str) -> ! {
 
 fn compare(cases: &mut [Case]) {
     println!(
-        "{:<22} {:<14} {:>10} {:>10} {:>10}",
+        "{:<28} {:<14} {:>10} {:>10} {:>10}",
         "case", "who", "least ns", "median ns", "over port"
     );
     for case in cases {
         let times = times(&mut case.contenders);
         for (contender, time) in case.contenders.iter().zip(&times) {
             println!(
-                "{:<22} {:<14} {:>10.1} {:>10.1} {:>10.2}",
+                "{:<28} {:<14} {:>10.1} {:>10.1} {:>10.2}",
                 case.name,
                 contender.name,
                 time.least,
@@ -98,6 +105,11 @@ fn cases() -> Vec<Case> {
     for (name, flips) in damages {
         cases.push(free_search(name, &blocks(&mut p, Ends::Free, 66, flips)));
     }
+    cases.push(encode(&mut p));
+    for (name, flips) in damages {
+        cases.push(decode(&mut p, name, flips));
+    }
+    cases.push(decode_soft(&mut p));
     cases
 }
 
@@ -235,6 +247,81 @@ fn free_search(damage: &str, blocks: &[Vec<bool>]) -> Case {
     });
     Case {
         name: format!("free-66-{damage}"),
+        contenders: vec![port, rust],
+    }
+}
+
+fn encode(p: &mut Prng) -> Case {
+    let bits = random_bits(p, 109);
+    let bytes = all_bytes(&bits);
+    let mut block = [0; 260];
+    let port = Contender::new("port", move |i| {
+        black_box(FORWARD.encode(black_box(&bytes[i % INPUTS]), &mut block));
+        black_box(&block);
+    });
+    let Channel { format, dvcc, mode } = FORWARD;
+    let rust = Contender::new("rust", move |i| {
+        let information = black_box(&bits[i % INPUTS]);
+        let _ = black_box(dcch::encode(format, information, dvcc, mode));
+    });
+    Case {
+        name: "dcch-encode-forward".into(),
+        contenders: vec![port, rust],
+    }
+}
+
+/// Blocks as sent with that many wrong bits each, or of random bits.
+fn forward_blocks(p: &mut Prng, flips: Option<usize>) -> Vec<Vec<bool>> {
+    let mut block = || {
+        let Some(flips) = flips else {
+            return p.bits(260);
+        };
+        let mut block = FORWARD.block(p, Kind::Clean);
+        flip(p, &mut block, flips);
+        block
+    };
+    (0..INPUTS).map(|_| block()).collect()
+}
+
+fn decode(p: &mut Prng, damage: &str, flips: Option<usize>) -> Case {
+    let bits = forward_blocks(p, flips);
+    let bytes = all_bytes(&bits);
+    let mut information = [0; 109];
+    let port = Contender::new("port", move |i| {
+        let block = black_box(&bytes[i % INPUTS]);
+        black_box(FORWARD.decode(block, &mut information));
+        black_box(&information);
+    });
+    let Channel { format, dvcc, mode } = FORWARD;
+    let rust = Contender::new("rust", move |i| {
+        let block = black_box(&bits[i % INPUTS]);
+        let _ = black_box(dcch::decode(format, block, dvcc, mode));
+    });
+    Case {
+        name: format!("dcch-decode-forward-{damage}"),
+        contenders: vec![port, rust],
+    }
+}
+
+/// Blocks as sent, with noise.
+fn decode_soft(p: &mut Prng) -> Case {
+    let blocks: Vec<Vec<f64>> = (0..INPUTS)
+        .map(|_| Sizes::Noisy.block(p, FORWARD, Kind::Clean))
+        .collect();
+    let same = blocks.clone();
+    let mut information = [0; 109];
+    let port = Contender::new("port", move |i| {
+        let block = black_box(&blocks[i % INPUTS]);
+        black_box(FORWARD.decode_soft(block, &mut information));
+        black_box(&information);
+    });
+    let Channel { format, dvcc, mode } = FORWARD;
+    let rust = Contender::new("rust", move |i| {
+        let block = black_box(&same[i % INPUTS]);
+        let _ = black_box(probe::decode_soft(format, block, dvcc, mode));
+    });
+    Case {
+        name: "dcch-decode-soft-forward".into(),
         contenders: vec![port, rust],
     }
 }
