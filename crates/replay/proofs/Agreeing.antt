@@ -9,7 +9,7 @@ use native.Mathlib.Nat.{le-refl}
 use lib.ListN.{length, getD, take, drop, length-drop}
 use lib.Seq.{take-all}
 use Rattle.bits.specs.Bits.{bit}
-use Rattle.bits.proofs.Lent.{part-length, whole-length, became}
+use Rattle.bits.proofs.LentPart.{part-length, whole-length, became}
 use Rattle.coding.specs.Registers.{Stepped}
 use Rattle.trellis.specs.Search.{FoundFirst}
 use Rattle.trellis.specs.declared.Outcome.{Outcome}

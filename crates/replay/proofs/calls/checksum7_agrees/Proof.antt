@@ -2,7 +2,7 @@
 use mathlib.Core.List.{List}
 use Prim.Native.Nat.{ℕ}
 use native.Mathlib.Omega.{arith}
-use Rattle.bits.proofs.Lent.{part-length}
+use Rattle.bits.proofs.LentPart.{part-length}
 use mathlib.Core.Path.{refl}
 use Rattle.replay.specs.Calls.{Checksum7Is}
 use Rattle.replay.proofs.Agreeing.{never, passed, of-rest}

@@ -3,7 +3,7 @@ use mathlib.Core.Path.{sym, ap₂, _∙_}
 use mathlib.Core.List.{List}
 use Prim.Native.Nat.{ℕ, _+_, _*_}
 use native.Mathlib.Omega.{arith}
-use Rattle.bits.proofs.Lent.{part-length}
+use Rattle.bits.proofs.LentPart.{part-length}
 use Rattle.coding.specs.declared.checksum.CrcMode.the-variants.{Broadcast, Addressed}
 use Rattle.replay.specs.Calls.{ChecksumIs, addressed-line, broadcast-line}
 use Rattle.replay.proofs.Agreeing.{never, of-rest}

@@ -6,7 +6,7 @@ use native.Mathlib.Omega.{arith}
 use lib.ListN.{length}
 use Rattle.bits.specs.Bits.{bits}
 use Rattle.bits.specs.Refusals.{accepted}
-use Rattle.bits.proofs.Lent.{part-length, whole-length}
+use Rattle.bits.proofs.LentPart.{part-length, whole-length}
 use Rattle.coding.specs.Checksums.{checksumOf, ofBits}
 use Rattle.replay.proofs.Agreeing.{part-is}
 use borrow.Author.Needs.{needs}

@@ -3,7 +3,7 @@ use mathlib.Core.Path.{_∙_, ap₂}
 use Prim.Native.Nat.{ℕ, _+_, _-_, _*_, _/_}
 use native.Mathlib.Omega.{arith}
 use lib.ListN.{length}
-use Rattle.bits.proofs.Lent.{part-length}
+use Rattle.bits.proofs.LentPart.{part-length}
 use Rattle.replay.proofs.Agreeing.{never, passed, searched-parts}
 use borrow.Author.Needs.{needs}
 use Rattle.replay.proofs.calls.viterbi_agrees.Statement.{statement}
