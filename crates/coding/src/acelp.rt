@@ -1,4 +1,5 @@
 // The code of ACELP CC1.
+// Ported from 136-bts, acelp_cc1.rs, and changed (see NOTICE).
 use crate::dcch::Step;
 use crate::register::parity;
 ghost use Prim.Native.Nat.{_<_};

@@ -1,4 +1,5 @@
 // The 16-bit checksum of DCCH, FACCH and SACCH, and the 7-bit one of the speech frames.
+// Ported from 136-bts, dcch.rs and acelp_cc1.rs, and changed (see NOTICE).
 use bits::Refusal;
 use bits::all_binary;
 use bits::unpack;

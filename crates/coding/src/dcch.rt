@@ -1,4 +1,5 @@
 // The code of DCCH, SACCH and VSELP.
+// Ported from 136-bts, dcch.rs, and changed (see NOTICE).
 use crate::register::parity;
 ghost use mathlib.Core.Path.{_≡_};
 ghost use mathlib.Core.Bool.{true};

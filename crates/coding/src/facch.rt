@@ -1,4 +1,5 @@
 // The code of FACCH.
+// Ported from 136-bts, facch.rs, and changed (see NOTICE).
 use crate::register::parity;
 ghost use Prim.Native.Nat.{_<_};
 ghost use Rattle.bits.specs.Bits.{bit};

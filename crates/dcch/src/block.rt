@@ -1,4 +1,5 @@
 // Encoding and decoding of a block.
+// Ported from 136-bts, dcch.rs, and changed (see NOTICE).
 use crate::BlockFormat;
 use crate::Decoded;
 use crate::Encoded;

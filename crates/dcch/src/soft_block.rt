@@ -1,4 +1,5 @@
 // Decoding of a block of reliabilities: positive for a zero, negative for a one, the size for how sure.
+// Ported from 136-bts, dcch.rs, and changed (see NOTICE).
 use crate::BlockFormat;
 use crate::Decoded;
 use crate::block::finish;

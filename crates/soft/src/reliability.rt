@@ -1,4 +1,5 @@
 // Tests on reliabilities, worked out: `is_finite` and `abs` of the Rust.
+// Ported from 136-bts, dcch.rs, and changed (see NOTICE).
 ghost use mathlib.Core.Bool.{false};
 ghost use mathlib.Core.Path.{_≡_};
 ghost use Prim.Native.Nat.{_≤_, _<_};

@@ -1,4 +1,5 @@
 // One step of the search, by butterflies: the states 2 n and 2 n + 1 lead to n and n + 16.
+// Ported from 136-bts, dcch.rs, and changed (see NOTICE).
 use crate::reliability::abs;
 use bits::wide;
 use coding::register::parity;
