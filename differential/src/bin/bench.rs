@@ -109,7 +109,13 @@ fn cases() -> Vec<Case> {
     for (name, flips) in damages {
         cases.push(decode(&mut p, name, flips));
     }
-    cases.push(decode_soft(&mut p));
+    for (what, sizes, kind) in [
+        ("clean", Sizes::Equal, Kind::Clean),
+        ("noisy", Sizes::Noisy, Kind::Clean),
+        ("random", Sizes::Noisy, Kind::Noise),
+    ] {
+        cases.push(decode_soft(&mut p, what, sizes, kind));
+    }
     cases
 }
 
@@ -303,11 +309,9 @@ fn decode(p: &mut Prng, damage: &str, flips: Option<usize>) -> Case {
     }
 }
 
-/// Blocks as sent, with noise.
-fn decode_soft(p: &mut Prng) -> Case {
-    let blocks: Vec<Vec<f64>> = (0..INPUTS)
-        .map(|_| Sizes::Noisy.block(p, FORWARD, Kind::Clean))
-        .collect();
+/// Blocks of that kind, with reliabilities of those sizes.
+fn decode_soft(p: &mut Prng, what: &str, sizes: Sizes, kind: Kind) -> Case {
+    let blocks: Vec<Vec<f64>> = (0..INPUTS).map(|_| sizes.block(p, FORWARD, kind)).collect();
     let same = blocks.clone();
     let mut information = [0; 109];
     let port = Contender::new("port", move |i| {
@@ -321,7 +325,7 @@ fn decode_soft(p: &mut Prng) -> Case {
         let _ = black_box(probe::decode_soft(format, block, dvcc, mode));
     });
     Case {
-        name: "dcch-decode-soft-forward".into(),
+        name: format!("dcch-decode-soft-forward-{what}"),
         contenders: vec![port, rust],
     }
 }
