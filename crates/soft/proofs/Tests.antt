@@ -84,34 +84,38 @@ abs-positive (inf true) h k = absurd (true≢false h)
 abs-positive (fin false m e) h k = refl
 abs-positive (fin true m e) h k = absurd (not-both (m * up e * 1) (0 * 1 * down e) (zero-mul (down e)) h k)
 
--- ---- the loop of `all_finite`: the values below k are finite
-pub record Scanning (l : List Float) (k : ℕ) : Type 0 where
+-- ---- the loop of `all_finite`: r says whether the values below k are finite
+pub record Scanning (l : List Float) (r : Bool) (k : ℕ) : Type 0 where
   pub low : k ≤ length l
-  pub rest : allFinite l ≡ allFinite (drop k l)
+  pub rest : allFinite l ≡ (r && allFinite (drop k l))
+
+pub scanning-none : (l : List Float) → Scanning l true 0
+scanning-none l = record { low = omega arith; rest = refl }
 
 finite-at : (l : List Float) (i : ℕ) → i < length l → allFinite (drop i l) ≡ (finite (getD l i nan) && allFinite (drop (i + 1) l))
 unfolding allFinite
 finite-at l i h = ap allFinite (drop-cons l i nan h) ∙ ap (λ (k : ℕ). finite (getD l i nan) && allFinite (drop k l)) (sym (add-one i))
 
-not-true : (b : Bool) → not b ≡ true → b ≡ false
-not-true true h = sym h
-not-true false h = refl
+and-assoc : (a b c : Bool) → (a && (b && c)) ≡ ((a && b) && c)
+and-assoc true b c = refl
+and-assoc false b c = refl
 
-not-false : (b : Bool) → not b ≡ false → b ≡ true
-not-false true h = refl
-not-false false h = sym h
+and-true : (a : Bool) → (a && true) ≡ a
+and-true true = refl
+and-true false = refl
 
-module _ {l : List Float} {k : ℕ} (i : Scanning l k) where
-  pub scanning-stops : {r : Bool} → k < length l → r ≡ finite (getD l k nan) → not r ≡ true → false ≡ allFinite l
-  scanning-stops {r} h e t = sym (i .rest ∙ finite-at l k h ∙ ap (λ (q : Bool). q && allFinite (drop (k + 1) l)) (sym e ∙ not-true r t))
+module _ {l : List Float} {r : Bool} {k : ℕ} (i : Scanning l r k) where
+  pub scanning-more : {q s : Bool} → k < length l → q ≡ finite (getD l k nan) → s ≡ (r && q) → Scanning l s (k + 1)
+  scanning-more {q} {s} h e f =
+      record {
+        low = omega arith;
+        rest = i .rest ∙ ap (λ (t : Bool). r && t) (finite-at l k h ∙ ap (λ (t : Bool). t && allFinite (drop (k + 1) l)) (sym e))
+            ∙ and-assoc r q _ ∙ ap (λ (t : Bool). t && allFinite (drop (k + 1) l)) (sym f);
+      }
 
-  pub scanning-more : {r : Bool} → k < length l → r ≡ finite (getD l k nan) → not r ≡ false → Scanning l (k + 1)
-  scanning-more {r} h e t =
-      record { low = omega arith; rest = i .rest ∙ finite-at l k h ∙ ap (λ (q : Bool). q && allFinite (drop (k + 1) l)) (sym e ∙ not-false r t) }
-
-  pub scanning-done : length l ≤ k → true ≡ allFinite l
+  pub scanning-done : length l ≤ k → r ≡ allFinite l
   unfolding allFinite
-  scanning-done h = sym (i .rest ∙ ap allFinite (drop-of-length-le l h))
+  scanning-done h = sym (i .rest ∙ ap (λ (t : List Float). r && allFinite t) (drop-of-length-le l h) ∙ and-true r)
 
 -- each of finite values is
 pub finite-each : (l : List Float) → allFinite l ≡ true → (i : ℕ) → i < length l → finite (getD l i nan) ≡ true

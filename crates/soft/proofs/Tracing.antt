@@ -1,7 +1,7 @@
 -- The loop of `traceback`: what is left to read, before what was read, is the survivor's word. Assumes nothing.
 use mathlib.Core.Path.{_≡_, refl, sym, ap, _∙_, subst}
 use mathlib.Core.List.{List, [], reverse}
-use Prim.Native.Nat.{ℕ, suc, _-_, _/_, _≤_, _<_}
+use Prim.Native.Nat.{ℕ, suc, _-_, _/_, _%_, _≤_, _<_}
 use native.Mathlib.Omega.{arith}
 use native.Mathlib.Nat.{le-refl}
 use lib.ListN.{length, set, drop, length-set}
@@ -64,3 +64,11 @@ decided-traced values from n d =
 pub decided-below : (values : List Float) (rows : List (List ℕ)) (n : ℕ) → Decided values rows n → (k s : ℕ) → k < n → s < 32 → rowsAt rows k s < 32
 decided-below values rows n d k s hk hs =
     subst (λ (p : ℕ). p < 32) (sym (d k hk s hs)) (register-high .pred-below s (decision doubles (softTrellis values) k s) hs)
+
+-- the low bytes of the rows decide alike
+pub narrowed-decided : (values : List Float) (rows low : List (List ℕ)) (n : ℕ) → n ≤ 130 → Decided values rows n
+    → ((k : ℕ) → k < 130 → (s : ℕ) → s < 32 → rowsAt low k s ≡ rowsAt rows k s % 256) → Decided values low n
+narrowed-decided values rows low n h d e k hk s hs =
+    let b : rowsAt rows k s < 32 = decided-below values rows n d k s hk hs in
+    let same : rowsAt rows k s % 256 ≡ rowsAt rows k s = omega arith in
+    e k (omega arith) s hs ∙ same ∙ d k hk s hs

@@ -1,6 +1,7 @@
 // Ported from 136-bts, dcch.rs (see NOTICE): `viterbi_soft`, and the tests and the count of `decode_soft`.
 // The soft-decision search of the DCCH code over doubles: specs/Soft.antt says what it finds.
 mod reliability;
+mod rows;
 mod step;
 
 use bits::wide;
@@ -9,6 +10,7 @@ pub use reliability::all_finite;
 use reliability::infinity;
 pub use reliability::is_finite;
 pub use reliability::sign_count;
+use rows::narrowed;
 use step::advance;
 use step::branch_metrics;
 use step::output_pairs;
@@ -42,7 +44,7 @@ fn forward(values: &[f64]) -> [[u8; 32]; 130]
     let pairs = output_pairs();
     let steps = values.len() / 2;
     let mut metrics = start_metrics();
-    let mut predecessors = [[0u8; 32]; 130];
+    let mut predecessors = [[0u16; 32]; 130];
     for step in 0..steps {
         let branch = branch_metrics(pairs, values[step * 2], values[step * 2 + 1]);
         let zeros = branch.zeros;
@@ -53,7 +55,7 @@ fn forward(values: &[f64]) -> [[u8; 32]; 130]
         metrics = next;
         predecessors[step] = chosen;
     }
-    predecessors
+    narrowed(&predecessors)
 }
 
 // Reads the survivor into state 0 back: the input of each step is the highest bit of the state that it enters.

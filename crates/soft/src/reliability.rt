@@ -1,6 +1,6 @@
 // Tests on reliabilities, worked out: `is_finite` and `abs` of the Rust.
 // Ported from 136-bts, dcch.rs, and changed (see NOTICE).
-ghost use mathlib.Core.Bool.{false};
+ghost use mathlib.Core.Bool.{false, _&&_};
 ghost use mathlib.Core.Path.{_≡_};
 ghost use Prim.Native.Nat.{_≤_, _<_};
 ghost use lib.Ieee.{inf};
@@ -22,15 +22,21 @@ pub fn is_finite(x: f64) -> bool
     if x < top { -top < x } else { false }
 }
 
+fn both(a: bool, b: bool) -> bool
+    ensures { λ r. ⌜ r ≡ (a && b) ⌝ }
+{
+    if a { b } else { false }
+}
+
+// Tests every value: a loop that does not end early is vectorised.
 pub fn all_finite(values: &[f64]) -> bool
     ensures { λ r. ⌜ r ≡ allFinite (now (values .entry)) ⌝ }
 {
+    let mut finite = true;
     for i in 0..values.len() {
-        if !is_finite(values[i]) {
-            return false;
-        }
+        finite = both(finite, is_finite(values[i]));
     }
-    true
+    finite
 }
 
 // The absolute value: the sign is cleared, also of a zero.

@@ -13,10 +13,10 @@ const G0: u8 = 0o65;
 
 const G1: u8 = 0o57;
 
-// The path metrics after a step, and the predecessor of each state.
+// The path metrics after a step, and the predecessor of each state: two bytes, since the comparisons of doubles that make them do not narrow well.
 pub struct Column {
     pub metrics: [f64; 32],
-    pub predecessors: [u8; 32],
+    pub predecessors: [u16; 32],
 }
 
 // The branch metrics from the states 2 n, with a zero and with a one. Flipping the oldest input complements both outputs as
@@ -82,7 +82,7 @@ fn lesser(lower: f64, upper: f64) -> f64
 }
 
 // The predecessor of the survivor: the upper one only where its candidate is less.
-fn predecessor(lower: f64, upper: f64, from: u8) -> u8
+fn predecessor(lower: f64, upper: f64, from: u16) -> u16
     requires { ⌜ from < 32 ⌝ }
     ensures { λ r. ⌜ r ≡ chosenOf lower upper from ⌝ }
 {
@@ -94,7 +94,7 @@ pub fn advance(metrics: [f64; 32], zeros: [f64; 16], ones: [f64; 16]) -> Column
     ensures { λ r. ⌜ Advanced metrics zeros ones r ⌝ }
 {
     let mut next = [0.0f64; 32];
-    let mut predecessors = [0u8; 32];
+    let mut predecessors = [0u16; 32];
     for n in 0..16 {
         let lower = metrics[n * 2];
         let upper = metrics[n * 2 + 1];
@@ -102,7 +102,7 @@ pub fn advance(metrics: [f64; 32], zeros: [f64; 16], ones: [f64; 16]) -> Column
         let b = upper + ones[n];
         let c = lower + ones[n];
         let d = upper + zeros[n];
-        let from = (n * 2) as u8;
+        let from = (n * 2) as u16;
         next[n] = lesser(a, b);
         next[n + 16] = lesser(c, d);
         predecessors[n] = predecessor(a, b, from);

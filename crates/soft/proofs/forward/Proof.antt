@@ -1,8 +1,11 @@
 -- `forward` meets its contract: after each step the path metrics and the predecessors are those of the recursion. Assumes nothing.
 use mathlib.Core.Path.{refl}
-use Prim.Native.Nat.{_-_}
+use Prim.Native.Nat.{_-_, _/_}
 use native.Mathlib.Omega.{arith}
+use denote.Ref.{now}
+use lib.ListN.{length}
 use Rattle.soft.proofs.Running.{Running, running-none, running-more}
+use Rattle.soft.proofs.Tracing.{narrowed-decided}
 use borrow.Author.Needs.{needs}
 use Rattle.soft.proofs.forward.Statement.{statement}
 use Rattle.soft.proofs.forward.Tie as tie
@@ -64,8 +67,17 @@ loop-less c = search needs
 loop-again : tie.Need-loop-again Inv-loop μ-loop
 loop-again c = running-more (c .before .before .before .before .before .before .before .before .before .loop .inv) (omega arith) (omega arith) (c .before .before .before .before .before .branch-metrics .result) (c .before .before .before .before .before .branch-metrics .ensures) (c .before .before .advance .result) (c .before .before .advance .ensures)
 
+slice-aggregate-narrowed : tie.Need-slice-aggregate-narrowed Inv-loop μ-loop
+slice-aggregate-narrowed c = search needs
+
+narrowed-requires : tie.Need-narrowed-requires Inv-loop μ-loop
+narrowed-requires c κs = c .before .before .loop .inv .size
+
 returns : tie.Need-returns Inv-loop μ-loop
-returns c = (c .before .loop .inv .size, λ k h. c .before .loop .inv .decided k (omega arith))
+returns c =
+    let values = now (c .before .before .before .before .before .before .before .args .values) in
+    let at = c .before .before .before .loop in
+    (c .narrowed .ensures .0, narrowed-decided values (at .predecessors) (c .narrowed .result) (length values / 2) (omega arith) (λ k h. at .inv .decided k (omega arith)) (c .narrowed .ensures .1))
 
 pub forward-spec : {M : Type 1} → statement M
 forward-spec =
@@ -90,4 +102,6 @@ forward-spec =
     add-step
     loop-less
     loop-again
+    slice-aggregate-narrowed
+    narrowed-requires
     returns)

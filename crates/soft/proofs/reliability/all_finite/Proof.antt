@@ -1,21 +1,21 @@
--- `all_finite` meets its contract: the values passed are finite. Assumes nothing.
+-- `all_finite` meets its contract: the values passed were tested. Assumes nothing.
 use mathlib.Core.Path.{_≡_, refl}
 use Prim.Native.Nat.{_-_}
 use native.Mathlib.Omega.{arith}
 use lib.ListN.{length}
-use Rattle.soft.proofs.Tests.{Scanning, scanning-stops, scanning-more, scanning-done}
+use Rattle.soft.proofs.Tests.{Scanning, scanning-none, scanning-more, scanning-done}
 use borrow.Author.Needs.{needs}
 use Rattle.soft.proofs.reliability.all_finite.Statement.{statement}
 use Rattle.soft.proofs.reliability.all_finite.Tie as tie
 
 abbrev Inv-loop : tie.InvT-loop
-Inv-loop values i₀ i-end i = (i-end ≡ length values) × Scanning values i
+Inv-loop values finite₀ i₀ i-end finite i = (i-end ≡ length values) × Scanning values finite i
 
 abbrev μ-loop : tie.MeasureT-loop
-μ-loop values i₀ i-end i = i-end - i
+μ-loop values finite₀ i₀ i-end finite i = i-end - i
 
 loop-holds : tie.Need-loop-holds Inv-loop μ-loop
-loop-holds c = (refl, record { low = omega arith; rest = refl })
+loop-holds c = (refl, scanning-none _)
 
 mul-is-finite : tie.Need-mul-is-finite Inv-loop μ-loop
 mul-is-finite c = search needs
@@ -26,8 +26,8 @@ shared-slice-read-is-finite c = search needs
 is-finite-requires : tie.Need-is-finite-requires Inv-loop μ-loop
 is-finite-requires c κs = search needs
 
-returns : tie.Need-returns Inv-loop μ-loop
-returns c = scanning-stops (c .before .before .before .before .loop .inv .1) (omega arith) (c .before .is-finite .ensures) (c .if1 .taken)
+both-requires : tie.Need-both-requires Inv-loop μ-loop
+both-requires c κs = search needs
 
 add-i : tie.Need-add-i Inv-loop μ-loop
 add-i c = search needs
@@ -36,10 +36,10 @@ loop-less : tie.Need-loop-less Inv-loop μ-loop
 loop-less c = search needs
 
 loop-again : tie.Need-loop-again Inv-loop μ-loop
-loop-again c = (refl, scanning-more (c .before .before .before .before .loop .inv .1) (omega arith) (c .before .is-finite .ensures) (c .if1 .left))
+loop-again c = (refl, scanning-more (c .before .before .before .before .loop .inv .1) (omega arith) (c .before .is-finite .ensures) (c .both .ensures))
 
-returns-2 : tie.Need-returns-2 Inv-loop μ-loop
-returns-2 c = scanning-done (c .before .loop .inv .1) (omega arith)
+returns : tie.Need-returns Inv-loop μ-loop
+returns c = scanning-done (c .before .loop .inv .1) (omega arith)
 
 pub all-finite-spec : {M : Type 1} → statement M
 all-finite-spec =
@@ -51,8 +51,8 @@ all-finite-spec =
     mul-is-finite
     shared-slice-read-is-finite
     is-finite-requires
-    returns
+    both-requires
     add-i
     loop-less
     loop-again
-    returns-2)
+    returns)

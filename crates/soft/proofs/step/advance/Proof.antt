@@ -90,6 +90,9 @@ array-write-next-2 c = omega arith
 predecessor-requires : tie.Need-predecessor-requires Inv-loop μ-loop
 predecessor-requires c κs = omega arith
 
+mul-predecessors : tie.Need-mul-predecessors Inv-loop μ-loop
+mul-predecessors c = omega arith
+
 array-write-predecessors : tie.Need-array-write-predecessors Inv-loop μ-loop
 array-write-predecessors c = omega arith
 
@@ -98,6 +101,9 @@ predecessor-requires-2 c κs = omega arith
 
 add-predecessors : tie.Need-add-predecessors Inv-loop μ-loop
 add-predecessors c = omega arith
+
+mul-predecessors-2 : tie.Need-mul-predecessors-2 Inv-loop μ-loop
+mul-predecessors-2 c = omega arith
 
 array-write-predecessors-2 : tie.Need-array-write-predecessors-2 Inv-loop μ-loop
 array-write-predecessors-2 c = omega arith
@@ -146,9 +152,11 @@ advance-spec =
     mul-next-2
     array-write-next-2
     predecessor-requires
+    mul-predecessors
     array-write-predecessors
     predecessor-requires-2
     add-predecessors
+    mul-predecessors-2
     array-write-predecessors-2
     add-n
     loop-less
