@@ -14,8 +14,8 @@ use Rattle.coding.specs.Registers.{Stepped}
 use Rattle.trellis.specs.Search.{FoundFirst}
 use Rattle.trellis.specs.declared.Outcome.{Outcome}
 use Rattle.trellis.specs.Words.{Terminated}
-use Rattle.replay.specs.Lines.{LineEnd, bitsIn, shaped}
-use Rattle.replay.specs.Calls.{Agreed, Replayed, Searched, StepLine, digitAt, ended, line, twoAt}
+use Rattle.replay.specs.Lines.{LineEnd, bitsIn, shaped, digitAt, twoAt}
+use Rattle.replay.specs.Calls.{Agreed, Replayed, Searched, StepLine, ended, line}
 use Rattle.replay.proofs.Reading.{shaped-length}
 
 -- what a failed test would have to be
@@ -78,8 +78,8 @@ module _ (code : List (List Bool)) (memory : ℕ → List Bool) (l : List ℕ) {
               st;
         }
 
--- ---- a part that was lent became the bits of a text
-pub part-is : (P : List ℕ → Type 0) (n : ℕ) (l ps ys : List ℕ) → n ≤ length l → length ps ≡ length (take n l) → ps ≡ ys → P (take n (ps ++ drop n l)) → P ys
+-- ---- a part that was lent became what a text writes
+pub part-is : {A : Type 0} (P : List A → Type 0) (n : ℕ) (l ps ys : List A) → n ≤ length l → length ps ≡ length (take n l) → ps ≡ ys → P (take n (ps ++ drop n l)) → P ys
 part-is P n l ps ys h kept e p = subst P (became n l h ps kept ∙ e) p
 
 -- ---- searches

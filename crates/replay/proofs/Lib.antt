@@ -1,3 +1,4 @@
 -- The laws that the functions' proofs cite.
 pub mod Reading
 pub mod Agreeing
+pub mod BlockLines

@@ -1,7 +1,7 @@
 -- Laws of digits, shapes and bits of a text. Assumes nothing.
 use mathlib.Core.Path.{_≡_, refl, sym, ap, _∙_}
 use mathlib.Core.Bool.{Bool, true, false, cond, false≢true}
-use mathlib.Core.List.{List, [], _∷_}
+use mathlib.Core.List.{List, [], _∷_, map}
 use Prim.Native.Nat.{ℕ, zero, suc, _+_, _-_, _<_, _≤_}
 use native.Mathlib.Numerals.{add-one}
 use native.Mathlib.Omega.{arith}
@@ -10,7 +10,7 @@ use borrow.Author.Tests.{lt-ltb, le-ltb, eq-eqb, ne-eqb}
 use lib.ListN.{length, drop, getD, length-map, drop-of-length-le}
 use lib.Seq.{drop-cons, ext-getD}
 use lib.Dec.{eqb, ltb}
-use Rattle.replay.specs.Lines.{bitOf, bitsIn, digitOf, shaped, stands}
+use Rattle.replay.specs.Lines.{bitOf, digitOf, shaped, stands}
 
 -- ---- a digit, by where the byte lies
 module _ (b : ℕ) where
@@ -103,13 +103,14 @@ module _ {ps bs : List ℕ} {i : ℕ} (f : Fitting ps bs i) where
   unfolding shaped
   fitting-done h = let g : length ps ≤ i = omega (arith, f .long) in sym (f .rest ∙ rw (drop-of-length-le ps g, drop-of-length-le bs h))
 
--- ---- the bits of a text
-pub bits-at : (l : List ℕ) (k : ℕ) → k < length l → getD (bitsIn l) k 0 ≡ bitOf (getD l k 0)
-bits-at [] k h = absurd (not-suc-le-zero h)
-bits-at (x ∷ l) zero h = refl
-bits-at (x ∷ l) (suc k) h = bits-at l k (le-of-suc-le-suc h)
+-- ---- what the characters of a text write
+mapped-at : {A : Type 0} (f : ℕ → A) (d : A) (l : List ℕ) (k : ℕ) → k < length l → getD (map f l) k d ≡ f (getD l k 0)
+mapped-at f d [] k h = absurd (not-suc-le-zero h)
+mapped-at f d (x ∷ l) zero h = refl
+mapped-at f d (x ∷ l) (suc k) h = mapped-at f d l k (le-of-suc-le-suc h)
 
--- bytes that are the bits of a text, place by place
-pub bits-all : (l bs : List ℕ) → length bs ≡ length l → ((k : ℕ) → k < length l → getD bs k 0 ≡ bitOf (getD l k 0)) → bs ≡ bitsIn l
-bits-all l bs e f =
-    ext-getD 0 bs (bitsIn l) (e ∙ sym (length-map l bitOf)) (λ k h. let g : k < length l = omega (arith, e) in f k g ∙ sym (bits-at l k g))
+-- a list that holds, place by place, what the characters write
+pub mapped-all : {A : Type 0} (f : ℕ → A) (d : A) (l : List ℕ) (vs : List A) → length vs ≡ length l
+    → ((k : ℕ) → k < length l → getD vs k d ≡ f (getD l k 0)) → vs ≡ map f l
+mapped-all f d l vs e p =
+    ext-getD d vs (map f l) (e ∙ sym (length-map l f)) (λ k h. let g : k < length l = omega (arith, e) in p k g ∙ sym (mapped-at f d l k g))

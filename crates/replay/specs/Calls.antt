@@ -15,14 +15,8 @@ use Rattle.trellis.specs.Search.{FoundFirst}
 use Rattle.trellis.specs.declared.Outcome.{Outcome}
 use Rattle.trellis.specs.Words.{Terminated}
 use Rattle.viterbi.specs.Hard.{weight}
-use Rattle.replay.specs.Lines.{LineEnd, bitsIn, digitOf, shaped}
-
--- the digit at a place of a line, and the number of two digits there
-abbrev pub digitAt : List ℕ → ℕ → ℕ
-digitAt l k = digitOf (getD l k 0)
-
-abbrev pub twoAt : List ℕ → ℕ → ℕ
-twoAt l k = digitAt l k * 16 + digitAt l (k + 1)
+use Rattle.replay.specs.Lines.{LineEnd, bitsIn, digitAt, shaped, twoAt}
+use Rattle.replay.specs.Blocks.{EncodeLine, DecodeLine, SoftLine}
 
 -- ---- `SS I NN OO` after a letter: a step of a code from the state SS, on the input I, to NN, with the outputs at the places
 pub record StepLine (shape places : List ℕ) (code : List (List Bool)) (memory : ℕ → List Bool) (l : List ℕ) : Type 0 where
@@ -89,6 +83,9 @@ pub data Agreed (l : List ℕ) : Type 0 where
   broadcast-line : ChecksumLine 98 Broadcast l → Agreed l
   speech-line : Checksum7Line l → Agreed l
   search-line : SearchLine l → Agreed l
+  encode-line : EncodeLine l → Agreed l
+  decode-line : DecodeLine l → Agreed l
+  soft-line : SoftLine l → Agreed l
 
 -- ---- a text from a place on: n lines, the answer of each of them right
 pub data Replayed (text : List ℕ) : ℕ → ℕ → Type 0 where

@@ -1,3 +1,4 @@
 -- The text of a list of calls, and what it means that a line's answer is right: the definitions.
 pub mod Lines
+pub mod Blocks
 pub mod Calls

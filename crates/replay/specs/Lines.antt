@@ -1,6 +1,6 @@
 -- Characters and shapes of lines.
 use mathlib.Core.Path.{_≡_}
-use Prim.Native.Nat.{ℕ, _-_, _≤_, _<_}
+use Prim.Native.Nat.{ℕ, _+_, _-_, _*_, _≤_, _<_}
 use mathlib.Core.Bool.{Bool, true, false, cond}
 use mathlib.Core.List.{List, [], _∷_, map}
 use lib.ListN.{length, getD}
@@ -9,6 +9,13 @@ use lib.Dec.{ltb, eqb}
 -- the value of a lower-case hexadecimal digit; 16 of any other byte
 unfoldable pub digitOf : ℕ → ℕ
 digitOf b = cond (ltb b 48) 16 (cond (ltb b 58) (b - 48) (cond (ltb b 97) 16 (cond (ltb b 103) (b - 87) 16)))
+
+-- the digit at a place of a line, and the number of two digits there
+abbrev pub digitAt : List ℕ → ℕ → ℕ
+digitAt l k = digitOf (getD l k 0)
+
+abbrev pub twoAt : List ℕ → ℕ → ℕ
+twoAt l k = digitAt l k * 16 + digitAt l (k + 1)
 
 -- the bit that a character writes; 2 of any other byte
 unfoldable pub bitOf : ℕ → ℕ

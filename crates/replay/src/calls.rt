@@ -1,4 +1,7 @@
 // One function for each kind of call: whether a line has the kind's form and its answer is the proved crate's.
+use crate::blocks::decode_line;
+use crate::blocks::decode_soft_line;
+use crate::blocks::encode_line;
 use crate::line::digit;
 use crate::line::has_shape;
 use crate::line::read_bits;
@@ -16,8 +19,8 @@ ghost use Prim.Native.Nat.{_*_, _≤_};
 ghost use lib.ListN.{length, getD};
 ghost use Rattle.bits.specs.Refusals.{accepted};
 ghost use Rattle.coding.specs.Checksums.{answerOf};
-ghost use Rattle.replay.specs.Lines.{bitsIn};
-ghost use Rattle.replay.specs.Calls.{AcelpLine, Agreed, Checksum7Is, Checksum7Line, ChecksumIs, DcchLine, FacchLine, SearchLine, Searched, digitAt, twoAt};
+ghost use Rattle.replay.specs.Lines.{bitsIn, digitAt, twoAt};
+ghost use Rattle.replay.specs.Calls.{AcelpLine, Agreed, Checksum7Is, Checksum7Line, ChecksumIs, DcchLine, FacchLine, SearchLine, Searched};
 
 // Whether the next state and two output bits are those of a line.
 fn step_agrees(step: coding::dcch::Step, line: &[u8]) -> bool
@@ -248,7 +251,10 @@ pub fn agrees(line: &[u8]) -> bool
         b'a' => acelp_agrees(line),
         b'c' => checksum_agrees(line),
         b'd' => dcch_agrees(line),
+        b'e' => encode_line(line),
         b'f' => facch_agrees(line),
+        b'h' => decode_line(line),
+        b'p' => decode_soft_line(line),
         b's' => checksum7_agrees(line),
         b'v' => viterbi_agrees(line),
         _ => false,

@@ -1,4 +1,5 @@
 // Replays a list of calls with the answers of the original Rust: each line that differs is printed, and the counts last.
+mod blocks;
 mod calls;
 mod line;
 

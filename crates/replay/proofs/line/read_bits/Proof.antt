@@ -5,7 +5,7 @@ use native.Mathlib.Omega.{arith}
 use lib.ListN.{length, getD}
 use Rattle.bits.proofs.Filled.{Filling, filling-none, filling-more, filling-done}
 use Rattle.replay.specs.Lines.{bitOf}
-use Rattle.replay.proofs.Reading.{bits-all}
+use Rattle.replay.proofs.Reading.{mapped-all}
 use borrow.Author.Needs.{needs}
 use Rattle.replay.proofs.line.read_bits.Statement.{statement}
 use Rattle.replay.proofs.line.read_bits.Tie as tie
@@ -41,7 +41,7 @@ same-length : tie.Need-same-length Inv-loop μ-loop
 same-length c = c .before .loop .inv .1 .size ∙ c .before .before .before .before .pre
 
 returns : tie.Need-returns Inv-loop μ-loop
-returns c = bits-all (c .before .before .before .before .args .text .now) _ (c .before .loop .inv .1 .size) (filling-done (c .before .loop .inv .1) (omega arith))
+returns c = mapped-all bitOf 0 (c .before .before .before .before .args .text .now) _ (c .before .loop .inv .1 .size) (filling-done (c .before .loop .inv .1) (omega arith))
 
 pub read-bits-spec : {M : Type 1} → statement M
 read-bits-spec =

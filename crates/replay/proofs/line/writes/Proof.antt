@@ -6,7 +6,7 @@ use native.Mathlib.Omega.{arith}
 use borrow.Author.Count.{below-none, below-more}
 use lib.ListN.{length, getD}
 use Rattle.replay.specs.Lines.{bitOf}
-use Rattle.replay.proofs.Reading.{bits-all}
+use Rattle.replay.proofs.Reading.{mapped-all}
 use borrow.Author.Needs.{needs}
 use Rattle.replay.proofs.line.writes.Statement.{statement}
 use Rattle.replay.proofs.line.writes.Tie as tie
@@ -45,7 +45,7 @@ loop-again : tie.Need-loop-again Inv-loop μ-loop
 loop-again c = (refl, c .before .before .before .before .before .loop .inv .1, omega arith, below-more _ _ (c .before .before .before .before .before .loop .inv .3) (sym (c .if2 .left) ∙ c .before .before .bit-of .ensures))
 
 returns-3 : tie.Need-returns-3 Inv-loop μ-loop
-returns-3 c = λ _. bits-all (c .before .before .before .before .before .args .text .now) _ (c .before .loop .inv .1) (λ k h. c .before .loop .inv .3 k (omega arith))
+returns-3 c = λ _. mapped-all bitOf 0 (c .before .before .before .before .before .args .text .now) _ (c .before .loop .inv .1) (λ k h. c .before .loop .inv .3 k (omega arith))
 
 pub writes-spec : {M : Type 1} → statement M
 writes-spec =

@@ -5,6 +5,13 @@
 //! `d SS I NN OO`, `f SS I NN OOOO`, `a SS I NN OO`: a step of DCCH, FACCH, ACELP (state, input,
 //! next state, outputs); `c M DD VVVV BITS`: checksum (`a` Addressed or `b` Broadcast, DVCC, value,
 //! information); `s VV BITS`: 7-bit checksum; `v MMM WORD CODED`: search (metric, word, block).
+//!
+//! DCCH blocks, after format (`0` Forward, `1` ReverseNormal, `2` ReverseAbbreviated), mode and
+//! DVCC: `e F M DD INFORMATION BLOCK`, encoded; `h F M DD KKK INFORMATION BLOCK`, decoded with KKK
+//! corrected bits, or `---` and `-` for each bit where the answer is Crc; `p`, the same of
+//! reliabilities, one digit each.
+mod blocks;
+
 use differential::blocks::{Ends, KINDS, text};
 use differential::phy::dcch::{CrcMode, probe};
 use differential::phy::{acelp_cc1, facch};
@@ -18,6 +25,7 @@ fn main() {
     checksums(&mut p);
     checksums7(&mut p);
     searches(&mut p);
+    blocks::blocks(&mut p);
 }
 
 fn steps() {
@@ -58,11 +66,11 @@ fn checksums(p: &mut Prng) {
 
 fn checksum(information: &[bool], dvcc: u8, mode: CrcMode) {
     let value = probe::checksum(information, dvcc, mode);
-    let letter = match mode {
-        CrcMode::Addressed => 'a',
-        CrcMode::Broadcast => 'b',
-    };
-    println!("c {letter} {dvcc:02x} {value:04x} {}", text(information));
+    println!(
+        "c {} {dvcc:02x} {value:04x} {}",
+        blocks::letter(mode),
+        text(information)
+    );
 }
 
 fn checksums7(p: &mut Prng) {
