@@ -14,9 +14,9 @@ use Rattle.coding.specs.Registers.{Stepped}
 use Rattle.trellis.specs.Search.{FoundFirst}
 use Rattle.trellis.specs.declared.Outcome.{Outcome}
 use Rattle.trellis.specs.Words.{Terminated}
-use Rattle.replay.specs.Lines.{LineEnd, bitsIn, shaped, digitAt, twoAt}
+use Rattle.text.specs.Lines.{LineEnd, bitsIn, shaped, digitAt, twoAt}
 use Rattle.replay.specs.Calls.{Agreed, Replayed, Searched, StepLine, ended, line}
-use Rattle.replay.proofs.Reading.{shaped-length}
+use Rattle.text.proofs.Reading.{shaped-length}
 
 -- what a failed test would have to be
 pub never : {A : Type 0} → false ≡ true → A

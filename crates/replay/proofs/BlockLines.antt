@@ -14,7 +14,7 @@ use Rattle.coding.specs.declared.checksum.CrcMode.{CrcMode}
 use Rattle.dcch.specs.Formats.{encodedBits, informationBits}
 use Rattle.dcch.specs.declared.BlockFormat.{BlockFormat}
 use Rattle.dcch.specs.declared.BlockFormat.the-variants.{Forward, ReverseNormal, ReverseAbbreviated}
-use Rattle.replay.specs.Lines.{digitOf, twoAt}
+use Rattle.text.specs.Lines.{digitOf, twoAt}
 use Rattle.replay.specs.Blocks.{blockIn, formatIn, informationIn, modeIn, reliabilities, reliabilityOf}
 
 -- ---- the reliability of a character, by its digit

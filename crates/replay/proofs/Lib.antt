@@ -1,4 +1,3 @@
 -- The laws that the functions' proofs cite.
-pub mod Reading
 pub mod Agreeing
 pub mod BlockLines

@@ -17,7 +17,7 @@ use Rattle.dcch.specs.declared.BlockFormat.{BlockFormat}
 use Rattle.dcch.specs.declared.BlockFormat.the-variants.{Forward, ReverseNormal, ReverseAbbreviated}
 use Rattle.dcch.specs.declared.Decoded.{Decoded}
 use Rattle.dcch.specs.declared.Encoded.the-variants as encoded
-use Rattle.replay.specs.Lines.{bitsIn, digitAt, digitOf, shaped, twoAt}
+use Rattle.text.specs.Lines.{bitsIn, digitAt, digitOf, shaped, twoAt}
 
 -- the format of a character: `0` Forward, `1` ReverseNormal, any other ReverseAbbreviated
 unfoldable pub formatOf : ℕ → BlockFormat

@@ -15,7 +15,7 @@ use Rattle.trellis.specs.Search.{FoundFirst}
 use Rattle.trellis.specs.declared.Outcome.{Outcome}
 use Rattle.trellis.specs.Words.{Terminated}
 use Rattle.viterbi.specs.Hard.{weight}
-use Rattle.replay.specs.Lines.{LineEnd, bitsIn, digitAt, shaped, twoAt}
+use Rattle.text.specs.Lines.{LineEnd, bitsIn, digitAt, shaped, twoAt}
 use Rattle.replay.specs.Blocks.{EncodeLine, DecodeLine, SoftLine}
 
 -- ---- `SS I NN OO` after a letter: a step of a code from the state SS, on the input I, to NN, with the outputs at the places

@@ -1,4 +1,3 @@
--- The text of a list of calls, and what it means that a line's answer is right: the definitions.
-pub mod Lines
+-- The lines of a list of calls, and what it means that a line's answer is right: the definitions.
 pub mod Blocks
 pub mod Calls

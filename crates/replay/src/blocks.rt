@@ -1,9 +1,4 @@
 // Lines of DCCH blocks: whether the answer of a line is the proved crate's.
-use crate::line::digit;
-use crate::line::has_shape;
-use crate::line::read_bits;
-use crate::line::two;
-use crate::line::writes;
 use bits::Refusal;
 use bits::wide;
 use coding::checksum::CrcMode;
@@ -13,6 +8,11 @@ use dcch::Encoded;
 use dcch::decode;
 use dcch::decode_soft;
 use dcch::encode;
+use text::digit;
+use text::has_shape;
+use text::read_bits;
+use text::two;
+use text::writes;
 ghost use mathlib.Core.Path.{_≡_};
 ghost use mathlib.Core.Bool.{true};
 ghost use Prim.Native.Nat.{_+_, _*_, _≤_};
@@ -21,7 +21,7 @@ ghost use Rattle.bits.specs.declared.Refusal.the-variants.{Crc};
 ghost use Rattle.dcch.specs.Blocks.{Decoding, Encoding, decodeAnswer};
 ghost use Rattle.dcch.specs.SoftBlocks.{SoftDecoding};
 ghost use Rattle.dcch.specs.declared.Encoded.the-variants as encoded;
-ghost use Rattle.replay.specs.Lines.{bitsIn, digitAt, twoAt};
+ghost use Rattle.text.specs.Lines.{bitsIn, digitAt, twoAt};
 ghost use Rattle.replay.specs.Blocks.{Answers, BlockLine, DecodeLine, EncodeLine, Encodes, Parts, SoftLine, crcOr, formatOf, modeOf, reliabilitiesIn, reliabilityOf};
 
 fn format_of(b: u8) -> BlockFormat

@@ -2,24 +2,24 @@
 use crate::blocks::decode_line;
 use crate::blocks::decode_soft_line;
 use crate::blocks::encode_line;
-use crate::line::digit;
-use crate::line::has_shape;
-use crate::line::read_bits;
-use crate::line::two;
-use crate::line::writes;
 use bits::all_binary;
 use bits::wide;
 use coding::checksum::Checked;
 use coding::checksum::CrcMode;
 use coding::checksum::checksum;
 use coding::checksum::checksum7;
+use text::digit;
+use text::has_shape;
+use text::read_bits;
+use text::two;
+use text::writes;
 ghost use mathlib.Core.Path.{_≡_};
 ghost use mathlib.Core.Bool.{true};
 ghost use Prim.Native.Nat.{_*_, _≤_};
 ghost use lib.ListN.{length, getD};
 ghost use Rattle.bits.specs.Refusals.{accepted};
 ghost use Rattle.coding.specs.Checksums.{answerOf};
-ghost use Rattle.replay.specs.Lines.{bitsIn, digitAt, twoAt};
+ghost use Rattle.text.specs.Lines.{bitsIn, digitAt, twoAt};
 ghost use Rattle.replay.specs.Calls.{AcelpLine, Agreed, Checksum7Is, Checksum7Line, ChecksumIs, DcchLine, FacchLine, SearchLine, Searched};
 
 // Whether the next state and two output bits are those of a line.

@@ -1,7 +1,6 @@
 // Replays a list of calls with the answers of the original Rust: each line that differs is printed, and the counts last.
 mod blocks;
 mod calls;
-mod line;
 
 use libc::STDIN_FILENO;
 use libc::STDOUT_FILENO;
@@ -37,7 +36,7 @@ fn replay(text: &[u8]) -> Tally
     let mut calls: u64 = 0;
     let mut differ: u64 = 0;
     while at < text.len() {
-        let end = line::line_end(text, at);
+        let end = text::line_end(text, at);
         differ += judge(&text[at..end]);
         calls += 1;
         at = end + 1;

@@ -5,7 +5,7 @@ use native.Mathlib.Omega.{arith}
 use lib.ListN.{length}
 use Rattle.bits.proofs.LentPart.{part-length, whole-length}
 use Rattle.dcch.specs.Blocks.{Decoding}
-use Rattle.replay.specs.Lines.{bitsIn}
+use Rattle.text.specs.Lines.{bitsIn}
 use Rattle.replay.specs.Blocks.{Answers, crcOr}
 use Rattle.replay.proofs.Agreeing.{part-is}
 use borrow.Author.Needs.{needs}

@@ -11,9 +11,9 @@ use Rattle.coding.specs.declared.checksum.CrcMode.{CrcMode}
 use Rattle.dcch.specs.Blocks.{Decoding}
 use Rattle.dcch.specs.Formats.{encodedBits, informationBits}
 use Rattle.dcch.specs.declared.BlockFormat.{BlockFormat}
-use Rattle.replay.specs.Lines.{bitsIn}
+use Rattle.text.specs.Lines.{bitsIn}
 use Rattle.replay.specs.Blocks.{Answers, BlockLine, blockIn, crcOr, formatIn, informationIn, modeIn}
-use Rattle.replay.specs.Lines.{twoAt}
+use Rattle.text.specs.Lines.{twoAt}
 use Rattle.replay.proofs.Agreeing.{never}
 use Rattle.replay.proofs.BlockLines.{few-information, few-encoded, line-parts}
 use borrow.Author.Needs.{needs}

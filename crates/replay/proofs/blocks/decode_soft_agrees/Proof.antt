@@ -6,7 +6,7 @@ use lib.ListN.{length}
 use lib.Ieee.{Float}
 use Rattle.bits.proofs.LentPart.{part-length, whole-length}
 use Rattle.dcch.specs.SoftBlocks.{SoftDecoding}
-use Rattle.replay.specs.Lines.{bitsIn}
+use Rattle.text.specs.Lines.{bitsIn}
 use Rattle.replay.specs.Blocks.{Answers, crcOr}
 use Rattle.replay.proofs.Agreeing.{part-is}
 use borrow.Author.Needs.{needs}

@@ -9,7 +9,7 @@ use borrow.Author.Tests.{not-false}
 use Rattle.coding.specs.declared.checksum.CrcMode.{CrcMode}
 use Rattle.dcch.specs.Formats.{encodedBits, informationBits}
 use Rattle.dcch.specs.declared.BlockFormat.{BlockFormat}
-use Rattle.replay.specs.Lines.{bitsIn}
+use Rattle.text.specs.Lines.{bitsIn}
 use Rattle.replay.specs.Blocks.{BlockLine, Encodes, formatIn}
 use Rattle.replay.proofs.Agreeing.{never}
 use Rattle.replay.proofs.BlockLines.{few-information, few-encoded, line-parts}

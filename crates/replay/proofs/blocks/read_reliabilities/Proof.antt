@@ -6,7 +6,7 @@ use lib.Ieee.{nan}
 use lib.ListN.{length, getD}
 use Rattle.bits.proofs.Filled.{Filling, filling-none, filling-more, filling-done}
 use Rattle.replay.specs.Blocks.{reliabilityOf}
-use Rattle.replay.proofs.Reading.{mapped-all}
+use Rattle.text.proofs.Reading.{mapped-all}
 use borrow.Author.Needs.{needs}
 use Rattle.replay.proofs.blocks.read_reliabilities.Statement.{statement}
 use Rattle.replay.proofs.blocks.read_reliabilities.Tie as tie

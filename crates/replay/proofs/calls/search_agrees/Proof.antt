@@ -4,7 +4,7 @@ use Prim.Native.Nat.{ℕ}
 use native.Mathlib.Omega.{arith}
 use lib.ListN.{length}
 use Rattle.bits.proofs.LentPart.{part-length, whole-length}
-use Rattle.replay.specs.Lines.{bitsIn}
+use Rattle.text.specs.Lines.{bitsIn}
 use Rattle.replay.specs.Calls.{Searched}
 use Rattle.replay.proofs.Agreeing.{asks-find, part-is}
 use borrow.Author.Needs.{needs}

@@ -1,7 +1,7 @@
--- `replay::line::bit_of` meets its contract: by the byte. Assumes nothing.
-use Rattle.replay.proofs.Reading.{bit-zero, bit-one, bit-none}
-use Rattle.replay.proofs.line.bit_of.Statement.{statement}
-use Rattle.replay.proofs.line.bit_of.Tie as tie
+-- `bit_of` meets its contract: by the byte. Assumes nothing.
+use Rattle.text.proofs.Reading.{bit-zero, bit-one, bit-none}
+use Rattle.text.proofs.bit_of.Statement.{statement}
+use Rattle.text.proofs.bit_of.Tie as tie
 
 returns : tie.Need-returns
 returns c = bit-zero _ (c .if1 .taken)

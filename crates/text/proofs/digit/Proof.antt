@@ -1,8 +1,8 @@
--- `replay::line::digit` meets its contract: by where the byte lies. Assumes nothing.
-use Rattle.replay.proofs.Reading.{digit-1, digit-2, digit-3, digit-4, digit-5}
+-- `digit` meets its contract: by where the byte lies. Assumes nothing.
+use Rattle.text.proofs.Reading.{digit-1, digit-2, digit-3, digit-4, digit-5}
 use borrow.Author.Needs.{needs}
-use Rattle.replay.proofs.line.digit.Statement.{statement}
-use Rattle.replay.proofs.line.digit.Tie as tie
+use Rattle.text.proofs.digit.Statement.{statement}
+use Rattle.text.proofs.digit.Tie as tie
 
 sub-result : tie.Need-sub-result
 sub-result c = search needs

@@ -1,14 +1,14 @@
--- `replay::line::read_bits` meets its contract: the bits passed are those of the text. Assumes nothing.
+-- `read_bits` meets its contract: the bits passed are those of the text. Assumes nothing.
 use mathlib.Core.Path.{_≡_, refl, sym, _∙_}
 use Prim.Native.Nat.{_-_}
 use native.Mathlib.Omega.{arith}
 use lib.ListN.{length, getD}
 use Rattle.bits.proofs.Filled.{Filling, filling-none, filling-more, filling-done}
-use Rattle.replay.specs.Lines.{bitOf}
-use Rattle.replay.proofs.Reading.{mapped-all}
+use Rattle.text.specs.Lines.{bitOf}
+use Rattle.text.proofs.Reading.{mapped-all}
 use borrow.Author.Needs.{needs}
-use Rattle.replay.proofs.line.read_bits.Statement.{statement}
-use Rattle.replay.proofs.line.read_bits.Tie as tie
+use Rattle.text.proofs.read_bits.Statement.{statement}
+use Rattle.text.proofs.read_bits.Tie as tie
 
 abbrev Inv-loop : tie.InvT-loop
 Inv-loop text bits₀ i₀ i-end bits i = (i-end ≡ length text) × Filling (λ k x. x ≡ bitOf (getD text k 0)) 0 (length text) bits i

@@ -10,7 +10,7 @@ use borrow.Author.Tests.{lt-ltb, le-ltb, eq-eqb, ne-eqb}
 use lib.ListN.{length, drop, getD, length-map, drop-of-length-le}
 use lib.Seq.{drop-cons, ext-getD}
 use lib.Dec.{eqb, ltb}
-use Rattle.replay.specs.Lines.{bitOf, digitOf, shaped, stands}
+use Rattle.text.specs.Lines.{bitOf, digitOf, shaped, stands}
 
 -- ---- a digit, by where the byte lies
 module _ (b : ℕ) where

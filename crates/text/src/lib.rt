@@ -4,7 +4,7 @@ ghost use mathlib.Core.Path.{_≡_};
 ghost use mathlib.Core.Bool.{true};
 ghost use Prim.Native.Nat.{_+_, _*_, _≤_};
 ghost use lib.ListN.{length};
-ghost use Rattle.replay.specs.Lines.{LineEnd, bitOf, bitsIn, digitOf, shaped, stands};
+ghost use Rattle.text.specs.Lines.{LineEnd, bitOf, bitsIn, digitOf, shaped, stands};
 
 // The value of a lower-case hexadecimal digit; 16 of any other byte.
 pub fn digit(b: u8) -> u8

@@ -1,15 +1,15 @@
--- `replay::line::writes` meets its contract: the bits passed are those of the text. Assumes nothing.
+-- `writes` meets its contract: the bits passed are those of the text. Assumes nothing.
 use mathlib.Core.Path.{_≡_, refl, sym, _∙_}
 use mathlib.Core.Bool.{false≢true}
 use Prim.Native.Nat.{ℕ, _-_, _≤_, _<_}
 use native.Mathlib.Omega.{arith}
 use borrow.Author.Count.{below-none, below-more}
 use lib.ListN.{length, getD}
-use Rattle.replay.specs.Lines.{bitOf}
-use Rattle.replay.proofs.Reading.{mapped-all}
+use Rattle.text.specs.Lines.{bitOf}
+use Rattle.text.proofs.Reading.{mapped-all}
 use borrow.Author.Needs.{needs}
-use Rattle.replay.proofs.line.writes.Statement.{statement}
-use Rattle.replay.proofs.line.writes.Tie as tie
+use Rattle.text.proofs.writes.Statement.{statement}
+use Rattle.text.proofs.writes.Tie as tie
 
 abbrev Inv-loop : tie.InvT-loop
 Inv-loop text bits i₀ i-end i = (i-end ≡ length text) × (length bits ≡ length text) × (i ≤ length text) × ((k : ℕ) → k < i → getD bits k 0 ≡ bitOf (getD text k 0))

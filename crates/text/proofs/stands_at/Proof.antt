@@ -1,8 +1,8 @@
--- `replay::line::stands_at` meets its contract: by whether the shape asks for a digit. Assumes nothing.
-use Rattle.replay.proofs.Reading.{stands-digit, stands-same}
+-- `stands_at` meets its contract: by whether the shape asks for a digit. Assumes nothing.
+use Rattle.text.proofs.Reading.{stands-digit, stands-same}
 use borrow.Author.Needs.{needs}
-use Rattle.replay.proofs.line.stands_at.Statement.{statement}
-use Rattle.replay.proofs.line.stands_at.Tie as tie
+use Rattle.text.proofs.stands_at.Statement.{statement}
+use Rattle.text.proofs.stands_at.Tie as tie
 
 digit-requires : tie.Need-digit-requires
 digit-requires c κs = search needs

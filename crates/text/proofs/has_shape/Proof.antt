@@ -1,13 +1,13 @@
--- `replay::line::has_shape` meets its contract: the places passed fit. Assumes nothing.
+-- `has_shape` meets its contract: the places passed fit. Assumes nothing.
 use mathlib.Core.Path.{_≡_, refl}
 use Prim.Native.Nat.{_-_}
 use native.Mathlib.Omega.{arith}
 use borrow.Author.Tests.{not-true, not-false}
 use lib.ListN.{length}
-use Rattle.replay.proofs.Reading.{Fitting, fitting-stops, fitting-more, fitting-done, not-shaped}
+use Rattle.text.proofs.Reading.{Fitting, fitting-stops, fitting-more, fitting-done, not-shaped}
 use borrow.Author.Needs.{needs}
-use Rattle.replay.proofs.line.has_shape.Statement.{statement}
-use Rattle.replay.proofs.line.has_shape.Tie as tie
+use Rattle.text.proofs.has_shape.Statement.{statement}
+use Rattle.text.proofs.has_shape.Tie as tie
 
 abbrev Inv-loop : tie.InvT-loop
 Inv-loop shape text i₀ i-end i = (i-end ≡ length text) × Fitting shape text i

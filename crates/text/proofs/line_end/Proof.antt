@@ -1,4 +1,4 @@
--- `replay::line::line_end` meets its contract: no byte passed is LF. Assumes nothing.
+-- `line_end` meets its contract: no byte passed is LF. Assumes nothing.
 use mathlib.Core.Path.{_≡_, refl}
 use Prim.Native.Nat.{ℕ, _-_, _≤_, _<_}
 use native.Mathlib.Omega.{arith}
@@ -6,8 +6,8 @@ use borrow.Author.Count.{below-more}
 use native.Mathlib.Nat.{lt-irrefl}
 use lib.ListN.{length, getD}
 use borrow.Author.Needs.{needs}
-use Rattle.replay.proofs.line.line_end.Statement.{statement}
-use Rattle.replay.proofs.line.line_end.Tie as tie
+use Rattle.text.proofs.line_end.Statement.{statement}
+use Rattle.text.proofs.line_end.Tie as tie
 
 abbrev Inv-loop : tie.InvT-loop
 Inv-loop text from i₀ i-end i = (i-end ≡ length text) × (from ≤ i) × (i ≤ length text) × ((k : ℕ) → k < i → from ≤ k → getD text k 0 ≡ 10 → ⊥)

@@ -1,0 +1,2 @@
+-- The laws of characters and shapes.
+pub mod Reading

@@ -1,0 +1,2 @@
+-- Text by characters and lines: the definitions.
+pub mod Lines
