@@ -1,0 +1,152 @@
+-- The rows give the branch metrics of the code, and a word's metric is its weight: each generator's output bits by one test over the places. Assumes nothing.
+use mathlib.Core.Path.{_≡_, refl, sym, ap, ap₂, subst, _∙_}
+use mathlib.Core.Bool.{Bool, true, false, cond, false≢true}
+use mathlib.Core.List.{List, [], _∷_, reverse}
+use Prim.Native.Nat.{ℕ, zero, suc, _+_, _*_, _/_, _%_, _<_, _≤_}
+use native.Mathlib.Omega.{arith}
+use native.Mathlib.Nat.{add-zero, not-suc-le-zero}
+use lib.Bits.{bitAnd}
+use lib.Count.{ones}
+use lib.Dec.{eqb, ltb}
+use lib.ListN.{length, getD, drop, take}
+use lib.Seq.{drop-cons}
+use borrow.Author.Tests.{ltb-true, eq-eqb, ne-eqb}
+use Rattle.bits.specs.Bits.{bit, byte, bits, differ, tally}
+use Rattle.bits.proofs.Tested.{below-bit, sameBit, sameBit-eq}
+use Rattle.bits.proofs.Binary.{differ-le, bit-byte, byte-below, byte-bit-any}
+use Rattle.coding.specs.Codes.{tapped, outputs, coded, facch}
+use Rattle.coding.specs.Registers.{memoryLow}
+use Rattle.trellis.specs.Engine.{slotFrom, branchBy, Rows}
+use Rattle.trellis.specs.Numbering.{newestLow}
+use Rattle.trellis.specs.Search.{Found}
+use Rattle.trellis.specs.Words.{OfLength, branchOf, wordMetric}
+use Rattle.trellis.specs.declared.Outcome.{Outcome}
+use Rattle.trellis.proofs.Distance.{distance}
+use Rattle.trellis.proofs.PathWord.{last-five}
+use Rattle.trellis.proofs.Registers.{register-low, same-numbers}
+use Rattle.trellis.proofs.Renumber.{metric-same}
+use Rattle.trellis.proofs.Running.{slot-below}
+use Rattle.trellis.proofs.Searching.{found-to}
+use Rattle.tailbiting.specs.Rows.{outputAt, costAt, RowsTo, NumbersTo}
+use Rattle.tailbiting.specs.Starts.{endOf, tailMetric}
+use Rattle.tailbiting.specs.TailBiting.{allErasable, erasedDiffer, tailWeight}
+use Rattle.tailbiting.proofs.Turns.{end-below, leads-end}
+
+-- ---- bytes 0, 1 and 2
+cond-true : (a b : Bool) → cond a b false ≡ true → (a ≡ true) × (b ≡ true)
+cond-true true b e = (refl, e)
+cond-true false b e = absurd (false≢true e)
+
+pub erasable-at : (l : List ℕ) → allErasable l ≡ true → (k : ℕ) → k < length l → getD l k 0 < 3
+unfolding allErasable
+erasable-at [] e k h = absurd (not-suc-le-zero h)
+erasable-at (x ∷ l) e zero h = ltb-true x 3 (cond-true (ltb x 3) (allErasable l) e .0)
+erasable-at (x ∷ l) e (suc k) h = erasable-at l (cond-true (ltb x 3) (allErasable l) e .1) k (omega arith)
+
+pub erased-none : (sent : Bool) (received : ℕ) → received ≡ 2 → 0 ≡ erasedDiffer sent received
+unfolding erasedDiffer
+erased-none sent received e = rw (eq-eqb received 2 e)
+
+pub erased-seen : (sent : Bool) (received x : ℕ) → (received ≡ 2 → ⊥) → x ≡ differ sent (bit received) → x ≡ erasedDiffer sent received
+unfolding erasedDiffer
+erased-seen sent received x n e = rw (ne-eqb received 2 n) e
+
+erased-le : (sent : Bool) (received : ℕ) → erasedDiffer sent received ≤ 1
+unfolding erasedDiffer
+erased-le sent received = go (eqb received 2)
+  where
+    go : (t : Bool) → cond t 0 (differ sent (bit received)) ≤ 1
+    go true = omega arith
+    go false = differ-le sent (bit received)
+
+-- ---- one place
+tap-test : List Bool → ℕ → Bool → ℕ → Bool
+tap-test g taps b s = sameBit (outputAt taps (slotFrom s b)) (tapped g (b ∷ memoryLow s))
+
+first-output : (s : ℕ) (b : Bool) → s < 32 → outputAt 0b111011 (slotFrom s b) ≡ tapped (bits (1 ∷ 1 ∷ 0 ∷ 1 ∷ 1 ∷ 1 ∷ [])) (b ∷ memoryLow s)
+unfolding tap-test outputAt tapped ones
+first-output s b h = sameBit-eq _ _ (below-bit (tap-test (bits (1 ∷ 1 ∷ 0 ∷ 1 ∷ 1 ∷ 1 ∷ [])) 0b111011) 32 tt tt b s h)
+
+second-output : (s : ℕ) (b : Bool) → s < 32 → outputAt 0b100111 (slotFrom s b) ≡ tapped (bits (1 ∷ 1 ∷ 1 ∷ 0 ∷ 0 ∷ 1 ∷ [])) (b ∷ memoryLow s)
+unfolding tap-test outputAt tapped ones
+second-output s b h = sameBit-eq _ _ (below-bit (tap-test (bits (1 ∷ 1 ∷ 1 ∷ 0 ∷ 0 ∷ 1 ∷ [])) 0b100111) 32 tt tt b s h)
+
+third-output : (s : ℕ) (b : Bool) → s < 32 → outputAt 0b101111 (slotFrom s b) ≡ tapped (bits (1 ∷ 1 ∷ 1 ∷ 1 ∷ 0 ∷ 1 ∷ [])) (b ∷ memoryLow s)
+unfolding tap-test outputAt tapped ones
+third-output s b h = sameBit-eq _ _ (below-bit (tap-test (bits (1 ∷ 1 ∷ 1 ∷ 1 ∷ 0 ∷ 1 ∷ [])) 0b101111) 32 tt tt b s h)
+
+fourth-output : (s : ℕ) (b : Bool) → s < 32 → outputAt 0b110101 (slotFrom s b) ≡ tapped (bits (1 ∷ 0 ∷ 1 ∷ 0 ∷ 1 ∷ 1 ∷ [])) (b ∷ memoryLow s)
+unfolding tap-test outputAt tapped ones
+fourth-output s b h = sameBit-eq _ _ (below-bit (tap-test (bits (1 ∷ 0 ∷ 1 ∷ 0 ∷ 1 ∷ 1 ∷ [])) 0b110101) 32 tt tt b s h)
+
+-- the parity of a count of ones, as a bit and as a byte
+pub output-byte : (taps slot register x : ℕ) → register ≡ (slot % 16 + slot / 32 * 16) * 2 + slot / 16 % 2 → x ≡ ones (bitAnd register taps) % 2 → x ≡ byte (outputAt taps slot)
+unfolding outputAt
+output-byte taps slot register x er ex = ex ∙ ap (λ (r : ℕ). ones (bitAnd r taps) % 2) er ∙ sym (byte-bit-any _)
+
+pub output-below : (taps slot x : ℕ) → x ≡ byte (outputAt taps slot) → x < 2
+output-below taps slot x e = omega (arith, byte-below (outputAt taps slot))
+
+-- a cost from an output byte
+pub place-cost : (taps slot x received a : ℕ) → x ≡ byte (outputAt taps slot) → a ≡ erasedDiffer (bit x) received → a ≡ erasedDiffer (outputAt taps slot) received
+place-cost taps slot x received a ex ea = ea ∙ ap (λ (p : Bool). erasedDiffer p received) (ap bit ex ∙ bit-byte (outputAt taps slot))
+
+cost-le : (slot a b c d : ℕ) → costAt slot a b c d ≤ 4
+cost-le slot a b c d =
+    omega (arith, erased-le (outputAt 0b111011 slot) a, erased-le (outputAt 0b100111 slot) b, erased-le (outputAt 0b101111 slot) c, erased-le (outputAt 0b110101 slot) d)
+
+-- ---- the metrics of the rows
+module _ (received symbols : List ℕ) (rows : List (List ℕ)) (height : length rows ≡ 65) (size : length symbols ≡ 65) (all : length received ≡ 260)
+    (filled : RowsTo received rows 65) (numbered : NumbersTo symbols 65) where
+  -- what was received of a step
+  step : (k : ℕ) → k < 65
+      → drop (k * 4) received ≡ getD received (k * 4) 0 ∷ getD received (k * 4 + 1) 0 ∷ getD received (k * 4 + 2) 0 ∷ getD received (k * 4 + 3) 0 ∷ drop (suc (suc (suc (suc (k * 4))))) received
+  step k h =
+      let e1 : suc (k * 4) ≡ k * 4 + 1 = omega arith in
+      let e2 : suc (suc (k * 4)) ≡ k * 4 + 2 = omega arith in
+      let e3 : suc (suc (suc (k * 4))) ≡ k * 4 + 3 = omega arith in
+      drop-cons received (k * 4) 0 (omega arith)
+      ∙ ap (λ (r : List ℕ). getD received (k * 4) 0 ∷ r)
+      (drop-cons received (suc (k * 4)) 0 (omega arith)
+      ∙ ap₂ (λ (i : ℕ) (r : List ℕ). getD received i 0 ∷ r) e1
+      (drop-cons received (suc (suc (k * 4))) 0 (omega arith)
+      ∙ ap₂ (λ (i : ℕ) (r : List ℕ). getD received i 0 ∷ r) e2
+      (drop-cons received (suc (suc (suc (k * 4)))) 0 (omega arith)
+      ∙ ap (λ (i : ℕ). getD received i 0 ∷ drop (suc (suc (suc (suc (k * 4))))) received) e3)))
+
+  branches : (k s : ℕ) (b : Bool) → k < 65 → s < 32 → branchBy rows symbols k s b ≡ branchOf facch memoryLow erasedDiffer received k s b
+  unfolding branchBy branchOf tally
+  branches k s b hk hs =
+      let ra : ℕ = getD received (k * 4) 0 in
+      let rb : ℕ = getD received (k * 4 + 1) 0 in
+      let rc : ℕ = getD received (k * 4 + 2) 0 in
+      let rd : ℕ = getD received (k * 4 + 3) 0 in
+      let at : getD (getD rows (getD symbols k 0) []) (slotFrom s b) 0 ≡ costAt (slotFrom s b) ra rb rc rd =
+      ap (λ (i : ℕ). getD (getD rows i []) (slotFrom s b) 0) (numbered k hk) ∙ filled k hk (slotFrom s b) (slot-below s b hs) in
+      let e0 : erasedDiffer (outputAt 0b111011 (slotFrom s b)) ra ≡ erasedDiffer (tapped (bits (1 ∷ 1 ∷ 0 ∷ 1 ∷ 1 ∷ 1 ∷ [])) (b ∷ memoryLow s)) ra = ap (λ (p : Bool). erasedDiffer p ra) (first-output s b hs) in
+      let e1 : erasedDiffer (outputAt 0b100111 (slotFrom s b)) rb ≡ erasedDiffer (tapped (bits (1 ∷ 1 ∷ 1 ∷ 0 ∷ 0 ∷ 1 ∷ [])) (b ∷ memoryLow s)) rb = ap (λ (p : Bool). erasedDiffer p rb) (second-output s b hs) in
+      let e2 : erasedDiffer (outputAt 0b101111 (slotFrom s b)) rc ≡ erasedDiffer (tapped (bits (1 ∷ 1 ∷ 1 ∷ 1 ∷ 0 ∷ 1 ∷ [])) (b ∷ memoryLow s)) rc = ap (λ (p : Bool). erasedDiffer p rc) (third-output s b hs) in
+      let e3 : erasedDiffer (outputAt 0b110101 (slotFrom s b)) rd ≡ erasedDiffer (tapped (bits (1 ∷ 0 ∷ 1 ∷ 0 ∷ 1 ∷ 1 ∷ [])) (b ∷ memoryLow s)) rd = ap (λ (p : Bool). erasedDiffer p rd) (fourth-output s b hs) in
+      at ∙ sym (ap (tally erasedDiffer (outputs facch (b ∷ memoryLow s))) (step k hk) ∙ omega arith)
+
+  -- no branch metric is above four
+  pub modest : Rows rows symbols
+  modest =
+      record {
+        symbol = λ k h. omega (arith, numbered k (omega arith));
+        small = λ i g hi hg. omega (arith, filled i (omega arith) g hg,
+              cost-le g (getD received (i * 4) 0) (getD received (i * 4 + 1) 0) (getD received (i * 4 + 2) 0) (getD received (i * 4 + 3) 0));
+      }
+
+  -- a word's metric from the state where it ends is its weight
+  metric-weight : (u : List Bool) → length u ≡ 65 → tailMetric (branchBy rows symbols) u ≡ tailWeight received u
+  unfolding tailMetric tailWeight
+  metric-weight u l =
+      let s : ℕ = endOf u in
+      metric-same newestLow newestLow register-low (λ s. s) (same-numbers newestLow) (branchBy rows symbols) (branchOf facch memoryLow erasedDiffer received) 65 branches s u (end-below u) (omega arith)
+      ∙ distance newestLow register-low facch tt erasedDiffer received s u (end-below u)
+      ∙ ap (λ (m : List Bool). tally erasedDiffer (coded facch m (reverse u)) received)
+      (sym (last-five newestLow register-low s u (end-below u) (omega arith) ∙ ap (newestLow .memory) (leads-end u l .ends)))
+
+  pub found-weight : (bits : List ℕ) (r : Outcome) → Found (OfLength 65) (tailMetric (branchBy rows symbols)) bits r → Found (OfLength 65) (tailWeight received) bits r
+  found-weight bits r f = found-to (λ u h. h) (λ u h. h) metric-weight bits r f

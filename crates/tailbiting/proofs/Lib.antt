@@ -1,0 +1,4 @@
+-- The laws.
+pub mod Joined
+pub mod Turns
+pub mod Branches
