@@ -1,11 +1,13 @@
 -- What is found among the words of A and among those of B is found among both: the better of the two answers. Assumes nothing.
-use mathlib.Core.Path.{_≡_, refl, sym, subst, _∙_}
+use mathlib.Core.Path.{_≡_, refl, sym, ap, ap₂, subst, _∙_}
 use mathlib.Core.Bool.{Bool, true, cond}
-use mathlib.Core.List.{List}
+use mathlib.Core.List.{List, _++_, append-nil}
 use mathlib.Core.Logic.{_⊎_, inl, inr}
 use Prim.Native.Nat.{ℕ, _<_, _≤_}
 use native.Mathlib.Omega.{arith}
 use native.Mathlib.Decide.{decLt}
+use lib.ListN.{length, take, drop}
+use lib.Seq.{take-length, drop-length}
 use borrow.Author.Tests.{lt-ltb, le-ltb}
 use Rattle.trellis.specs.Search.{Nearest, Ambiguous, Found}
 use Rattle.trellis.specs.declared.Outcome.{Outcome}
@@ -95,9 +97,14 @@ module _ {A B C : List Bool → Type 0} {weight : List Bool → ℕ} (b : Both A
 
 -- ---- the ways out of `better`
 module _ (best run : Outcome) (word inputs : List ℕ) where
-  pub run-less : run .metric < best .metric → (run ≡ betterOf best run) × (word ≡ keptOf best run word inputs)
+  -- the word was copied over the inputs
+  pub run-less : (copied : List ℕ) → run .metric < best .metric → length word ≡ length inputs → copied ≡ take (length word) word ++ drop (length word) inputs
+      → (run ≡ betterOf best run) × (copied ≡ keptOf best run word inputs)
   unfolding betterOf keptOf
-  run-less h = (rw (lt-ltb (run .metric) (best .metric) h), rw (lt-ltb (run .metric) (best .metric) h))
+  run-less copied h l e =
+      let whole : copied ≡ word =
+      e ∙ ap₂ (λ (a b : List ℕ). a ++ b) (take-length word) (ap (λ (n : ℕ). drop n inputs) l ∙ drop-length inputs) ∙ append-nil word in
+      (rw (lt-ltb (run .metric) (best .metric) h), rw (lt-ltb (run .metric) (best .metric) h) whole)
 
   pub best-less : best .metric < run .metric → (best ≡ betterOf best run) × (inputs ≡ keptOf best run word inputs)
   unfolding betterOf keptOf

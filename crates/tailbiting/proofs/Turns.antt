@@ -100,9 +100,13 @@ module _ (branch : ℕ → ℕ → Bool → ℕ) where
         found-alone one-more f
         (λ u d. omega (arith, b u (d .steps), ap (λ (x : ℕ). getD bounds x 0) (end-is u (d .turn))))
 
-    pub tried : (inputs word : List ℕ) (best run : Outcome) → Found (Tried first k) (tailMetric branch) inputs best → Found (TriedAt first k) (tailMetric branch) word run
-        → Found (Tried first (k + 1)) (tailMetric branch) (keptOf best run word inputs) (betterOf best run)
-    tried inputs word best run f g = found-better one-more f g (λ u a b. omega (arith, a .early, b .turn))
+    pub tried-run : (inputs word : List ℕ) (best run : Outcome) (kept : List ℕ) (r : Outcome) (n : ℕ) → n ≡ 65 → Found (Tried first k) (tailMetric branch) inputs best
+        → FoundFirst (Leads newestLow s s n) (wordMetric newestLow branch s) word run → r ≡ betterOf best run → kept ≡ keptOf best run word inputs
+        → Found (Tried first (k + 1)) (tailMetric branch) kept r
+    tried-run inputs word best run kept r n e f g er ek =
+        subst (λ (x : List ℕ). Found (Tried first (k + 1)) (tailMetric branch) x r) (sym ek)
+        (subst (λ (x : Outcome). Found (Tried first (k + 1)) (tailMetric branch) (keptOf best run word inputs) x) (sym er)
+        (found-better one-more f (at-turn word run n e g) (λ u a b. omega (arith, a .early, b .turn))))
 
   -- ---- the first start, and all 32
   pub first-found : (first : ℕ) (bits : List ℕ) (r : Outcome) (n : ℕ) → first < 32 → n ≡ 65 → FoundFirst (Leads newestLow first first n) (wordMetric newestLow branch first) bits r

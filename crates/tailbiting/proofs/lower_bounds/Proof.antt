@@ -1,8 +1,7 @@
--- `lower_bounds` meets its contract. Assumes nothing.
-use Prim.Native.Nat.{_-_}
+-- `tailbiting::lower_bounds` meets its contract: a path from a given start costs no less than one from any. Assumes nothing.
 use native.Mathlib.Omega.{arith}
 use borrow.Author.Needs.{needs}
-use borrow.Author.Needs.{needs}
+use Rattle.tailbiting.proofs.Turns.{starts-zero, bounded}
 use Rattle.tailbiting.proofs.lower_bounds.Statement.{statement}
 use Rattle.tailbiting.proofs.lower_bounds.Tie as tie
 
@@ -10,10 +9,10 @@ slice-aggregate-forward : tie.Need-slice-aggregate-forward
 slice-aggregate-forward c = search needs
 
 forward-requires : tie.Need-forward-requires
-forward-requires c κs = search needs
+forward-requires c κs = (omega arith, omega arith, starts-zero, c .before .before .pre .1)
 
 returns : tie.Need-returns
-returns c = search needs
+returns c = bounded _ _ _ _ _ (c .before .forward .ensures) (c .before .before .before .before .pre .0)
 
 pub lower-bounds-spec : {M : Type 1} → statement M
 lower-bounds-spec = tie.close (tie.spec slice-aggregate-forward forward-requires returns)

@@ -1,33 +1,32 @@
--- `lowest` meets its contract. Assumes nothing.
-use Prim.Native.Nat.{_-_}
+-- `tailbiting::lowest` meets its contract: the state is one of the 32. Assumes nothing.
+use Prim.Native.Nat.{_-_, _<_, _≤_}
 use native.Mathlib.Omega.{arith}
-use borrow.Author.Needs.{needs}
 use Rattle.tailbiting.proofs.lowest.Statement.{statement}
 use Rattle.tailbiting.proofs.lowest.Tie as tie
 
 abbrev Inv-loop : tie.InvT-loop
-Inv-loop bounds at₀ state₀ at state = ?
+Inv-loop bounds at₀ state₀ at state = (at < 32) × (state ≤ 32)
 
 abbrev μ-loop : tie.MeasureT-loop
-μ-loop bounds at₀ state₀ at state = ?
+μ-loop bounds at₀ state₀ at state = 32 - state
 
 loop-holds : tie.Need-loop-holds Inv-loop μ-loop
-loop-holds c = search needs
+loop-holds c = omega arith
 
 lesser-requires : tie.Need-lesser-requires Inv-loop μ-loop
-lesser-requires c κs = search needs
+lesser-requires c κs = omega arith
 
 add-state : tie.Need-add-state Inv-loop μ-loop
-add-state c = search needs
+add-state c = omega arith
 
 loop-less : tie.Need-loop-less Inv-loop μ-loop
-loop-less c = search needs
+loop-less c = omega arith
 
 loop-again : tie.Need-loop-again Inv-loop μ-loop
-loop-again c = search needs
+loop-again c = omega arith
 
 returns : tie.Need-returns Inv-loop μ-loop
-returns c = search needs
+returns c = omega arith
 
 pub lowest-spec : {M : Type 1} → statement M
 lowest-spec =

@@ -1,8 +1,8 @@
--- `visit` meets its contract. Assumes nothing.
-use Prim.Native.Nat.{_-_}
+-- `tailbiting::visit` meets its contract: one more start is tried or passed over. Assumes nothing.
+use mathlib.Core.Path.{refl, subst}
 use native.Mathlib.Omega.{arith}
 use borrow.Author.Needs.{needs}
-use borrow.Author.Needs.{needs}
+use Rattle.tailbiting.proofs.Turns.{passed, tried-run}
 use Rattle.tailbiting.proofs.visit.Statement.{statement}
 use Rattle.tailbiting.proofs.visit.Tie as tie
 
@@ -16,7 +16,9 @@ element-copy-out-if1 : tie.Need-element-copy-out-if1
 element-copy-out-if1 c = search needs
 
 returns : tie.Need-returns
-returns c = search needs
+returns c =
+    let begin = c .before .before .before .before .before in
+    passed _ (begin .args .first) (begin .args .turn) _ (begin .pre .1 .0 .0) (begin .pre .1 .0 .1) refl (begin .args .bounds .now) _ _ (begin .pre .1 .0 .2) (search needs) (begin .pre .1 .1)
 
 slice-aggregate-nearest-between : tie.Need-slice-aggregate-nearest-between
 slice-aggregate-nearest-between c = search needs
@@ -34,7 +36,11 @@ same-length : tie.Need-same-length
 same-length c = search needs
 
 returns-2 : tie.Need-returns-2
-returns-2 c = search needs
+returns-2 c =
+    let begin = c .before .before .before .before .before .before .before .before .before .before .before .before .before in
+    let run = c .before .before .before .before .before .before .nearest-between in
+    tried-run _ (begin .args .first) (begin .args .turn) _ (begin .pre .1 .0 .0) (begin .pre .1 .0 .1) refl (begin .args .inputs .now) _ (begin .args .best) _ _ _ _ (begin .pre .0 .0) (begin .pre .1 .1) (run .ensures)
+    (c .before .before .better .ensures .0) (c .before .before .better .ensures .1)
 
 pub visit-spec : {M : Type 1} → statement M
 visit-spec =
