@@ -134,8 +134,11 @@ module _ (received symbols : List ℕ) (rows : List (List ℕ)) (height : length
   modest =
       record {
         symbol = λ k h. omega (arith, numbered k (omega arith));
-        small = λ i g hi hg. omega (arith, filled i (omega arith) g hg,
-              cost-le g (getD received (i * 4) 0) (getD received (i * 4 + 1) 0) (getD received (i * 4 + 2) 0) (getD received (i * 4 + 3) 0));
+        small = λ i g hi hg. omega (
+          arith,
+          filled i (omega arith) g hg,
+          cost-le g (getD received (i * 4) 0) (getD received (i * 4 + 1) 0) (getD received (i * 4 + 2) 0) (getD received (i * 4 + 3) 0),
+        );
       }
 
   -- a word's metric from the state where it ends is its weight

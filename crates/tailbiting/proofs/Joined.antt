@@ -77,12 +77,12 @@ module _ {A B C : List Bool → Type 0} {weight : List Bool → ℕ} (b : Both A
         nearest = near;
         metric = f .metric;
         tied = λ t. record {
-              one = f .word;
-              other = g .word;
-              one-nearest = near;
-              other-nearest = wider (exchanged b) (run .metric) (g .word) (g .nearest) (sym (g .metric)) (λ u x. omega (arith, f .nearest .least u x, f .metric));
-              distinct = λ q. apart (g .word) (subst A q (f .nearest .word)) (g .nearest .word);
-            };
+          one = f .word;
+          other = g .word;
+          one-nearest = near;
+          other-nearest = wider (exchanged b) (run .metric) (g .word) (g .nearest) (sym (g .metric)) (λ u x. omega (arith, f .nearest .least u x, f .metric));
+          distinct = λ q. apart (g .word) (subst A q (f .nearest .word)) (g .nearest .word);
+        };
         alone = λ c. refl;
       }
 

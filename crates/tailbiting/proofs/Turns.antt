@@ -37,21 +37,25 @@ end-of : (s : ℕ) (u : List Bool) → s < 32 → Leads newestLow s s 65 u → e
 end-of s u hs d = sym (end-from s u hs (d .steps)) ∙ d .ends
 
 -- ---- the bounds
+pub starts-low : (x : ℕ) → x ≤ 1000 → Starts (replicate 32 x)
+starts-low x h s l = omega (arith, getD-replicate {A = ℕ} 32 s x 0 l)
+
 abbrev none : List ℕ
 none = replicate 32 0
 
 zeros : (s : ℕ) → s < 32 → getD none s 0 ≡ 0
 zeros s h = getD-replicate {A = ℕ} 32 s 0 0 h
 
-pub starts-zero : Starts none
-starts-zero s h = omega (arith, zeros s h)
-
 pub bounded : (branch : ℕ → ℕ → Bool → ℕ) (ps₀ ps : List (List ℕ)) (n : ℕ) (ms : List ℕ) → Forwarded (engine branch none) ps₀ ps n ms → n ≡ 65 → Bounds branch ms
 unfolding tailMetric
 bounded branch ps₀ ps n ms f e u l =
     let s : ℕ = endOf u in
-    omega (arith, subst (λ (k : ℕ). Forwarded (engine branch none) ps₀ ps k ms) e f .metrics s (end-below u),
-      metric-least newestLow register-low branch (λ r. getD none r 0) s s 65 u (end-below u) (end-below u) (leads-end u l), zeros s (end-below u))
+    omega (
+      arith,
+      subst (λ (k : ℕ). Forwarded (engine branch none) ps₀ ps k ms) e f .metrics s (end-below u),
+      metric-least newestLow register-low branch (λ r. getD none r 0) s s 65 u (end-below u) (end-below u) (leads-end u l),
+      zeros s (end-below u),
+    )
 
 module _ (branch : ℕ → ℕ → Bool → ℕ) where
   -- ---- the run from a start finds among the words whose turn it is

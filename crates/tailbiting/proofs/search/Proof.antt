@@ -33,8 +33,7 @@ loop-holds c = (omega arith, search needs, first-found _ _ _ _ _ (c .before .bef
 visit-requires : tie.Need-visit-requires Inv-loop μ-loop
 visit-requires c κs =
     let begin = c .before .before .before .before .before .before .before .before .before .before .before .before .before in
-    let loop = c .before .before .before .loop in
-    (
+    let loop = c .before .before .before .loop in (
       (begin .pre .0, begin .pre .1, loop .inv .1),
       ((c .before .before .before .before .before .before .before .before .lowest .ensures, omega arith, c .before .before .before .before .before .before .before .before .before .before .lower-bounds .ensures), loop .inv .2),
     )

@@ -1,5 +1,5 @@
 -- `tailbiting::rows::fill_rows` meets its contract: the rows passed are those of their steps. Assumes nothing.
-use Prim.Native.Nat.{_+_, _*_, _-_}
+use Prim.Native.Nat.{_-_}
 use native.Mathlib.Omega.{arith}
 use mathlib.Core.Path.{_≡_, refl}
 use mathlib.Core.List.{[]}
@@ -66,11 +66,10 @@ shared-slice-read-fourth c = omega arith
 
 step-row-requires : tie.Need-step-row-requires Inv-loop μ-loop
 step-row-requires c κs =
-    let step = c .before .before .before .before .before .before .before .before .before .loop .step in
-    let pre = c .before .before .before .before .before .before .before .before .before .before .before .before .before .before .before .pre in
-    (
-      (erasable-at _ (pre .2) (step * 4) (omega arith), erasable-at _ (pre .2) (step * 4 + 1) (omega arith), erasable-at _ (pre .2) (step * 4 + 2) (omega arith), erasable-at _ (pre .2) (step * 4 + 3) (omega arith)),
-      (c .before .before .before .before .before .before .before .before .before .before .before .before .before .outputs .ensures, c .before .before .before .before .before .before .before .before .before .before .before .before .outputs2 .ensures, c .before .before .before .before .before .before .before .before .before .before .before .outputs3 .ensures, c .before .before .before .before .before .before .before .before .before .before .outputs4 .ensures),
+    let fourth = c .before .before .before .before .before .before .before .before .before .before in
+    let erasable = fourth .before .before .before .before .before .pre .2 in (
+      (erasable-at _ erasable _ (omega arith), erasable-at _ erasable _ (omega arith), erasable-at _ erasable _ (omega arith), erasable-at _ erasable _ (omega arith)),
+      (fourth .before .before .before .outputs .ensures, fourth .before .before .outputs2 .ensures, fourth .before .outputs3 .ensures, fourth .outputs4 .ensures),
     )
 
 mul-row : tie.Need-mul-row Inv-loop μ-loop

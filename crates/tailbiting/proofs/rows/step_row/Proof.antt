@@ -21,13 +21,13 @@ element-copy-out-erased-differs : tie.Need-element-copy-out-erased-differs Inv-l
 element-copy-out-erased-differs c = omega arith
 
 erased-differs-requires : tie.Need-erased-differs-requires Inv-loop μ-loop
-erased-differs-requires c κs = (output-below _ _ _ (c .before .before .before .pre .1 .0 _ (omega arith)), c .before .before .before .pre .0 .0)
+erased-differs-requires c κs = (output-below _ _ _ (c .before .before .before .pre .1 .0 _ (omega arith)), omega arith)
 
 element-copy-out-erased-differs-2 : tie.Need-element-copy-out-erased-differs-2 Inv-loop μ-loop
 element-copy-out-erased-differs-2 c = omega arith
 
 erased-differs-requires-2 : tie.Need-erased-differs-requires-2 Inv-loop μ-loop
-erased-differs-requires-2 c κs = (output-below _ _ _ (c .before .before .before .before .before .pre .1 .1 _ (omega arith)), c .before .before .before .before .before .pre .0 .1)
+erased-differs-requires-2 c κs = (output-below _ _ _ (c .before .before .before .before .before .pre .1 .1 _ (omega arith)), omega arith)
 
 add-x : tie.Need-add-x Inv-loop μ-loop
 add-x c = omega arith
@@ -36,13 +36,13 @@ element-copy-out-erased-differs-3 : tie.Need-element-copy-out-erased-differs-3 I
 element-copy-out-erased-differs-3 c = omega arith
 
 erased-differs-requires-3 : tie.Need-erased-differs-requires-3 Inv-loop μ-loop
-erased-differs-requires-3 c κs = (output-below _ _ _ (c .before .before .before .before .before .before .before .pre .1 .2 _ (omega arith)), c .before .before .before .before .before .before .before .pre .0 .2)
+erased-differs-requires-3 c κs = (output-below _ _ _ (c .before .before .before .before .before .before .before .pre .1 .2 _ (omega arith)), omega arith)
 
 element-copy-out-erased-differs-4 : tie.Need-element-copy-out-erased-differs-4 Inv-loop μ-loop
 element-copy-out-erased-differs-4 c = omega arith
 
 erased-differs-requires-4 : tie.Need-erased-differs-requires-4 Inv-loop μ-loop
-erased-differs-requires-4 c κs = (output-below _ _ _ (c .before .before .before .before .before .before .before .before .before .pre .1 .3 _ (omega arith)), c .before .before .before .before .before .before .before .before .before .pre .0 .3)
+erased-differs-requires-4 c κs = (output-below _ _ _ (c .before .before .before .before .before .before .before .before .before .pre .1 .3 _ (omega arith)), omega arith)
 
 add-y : tie.Need-add-y Inv-loop μ-loop
 add-y c = omega arith
