@@ -1,25 +1,22 @@
 -- The rows give the branch metrics of the code, and a word's metric is its weight: each generator's output bits by one test over the places. Assumes nothing.
-use mathlib.Core.Path.{_≡_, refl, sym, ap, ap₂, subst, _∙_}
-use mathlib.Core.Bool.{Bool, true, false, cond, false≢true}
+use mathlib.Core.Path.{_≡_, sym, ap, ap₂, _∙_}
+use mathlib.Core.Bool.{Bool}
 use mathlib.Core.List.{List, [], _∷_, reverse}
-use Prim.Native.Nat.{ℕ, zero, suc, _+_, _*_, _/_, _%_, _<_, _≤_}
+use Prim.Native.Nat.{ℕ, suc, _+_, _*_, _/_, _%_, _<_, _≤_}
 use native.Mathlib.Omega.{arith}
-use native.Mathlib.Nat.{add-zero, not-suc-le-zero}
 use lib.Bits.{bitAnd}
 use lib.Count.{ones}
-use lib.Dec.{eqb, ltb}
-use lib.ListN.{length, getD, drop, take}
+use lib.ListN.{length, getD, drop}
 use lib.Seq.{drop-cons}
-use borrow.Author.Tests.{ltb-true, eq-eqb, ne-eqb}
-use Rattle.bits.specs.Bits.{bit, byte, bits, differ, tally}
+use Rattle.bits.specs.Bits.{bit, byte, bits, tally}
 use Rattle.bits.proofs.Tested.{below-bit, sameBit, sameBit-eq}
-use Rattle.bits.proofs.Binary.{differ-le, bit-byte, byte-below, byte-bit-any}
+use Rattle.bits.proofs.Binary.{bit-byte, byte-below, byte-bit-any}
 use Rattle.coding.specs.Codes.{tapped, outputs, coded, facch}
 use Rattle.coding.specs.Registers.{memoryLow}
 use Rattle.trellis.specs.Engine.{slotFrom, branchBy, Rows}
 use Rattle.trellis.specs.Numbering.{newestLow}
 use Rattle.trellis.specs.Search.{Found}
-use Rattle.trellis.specs.Words.{OfLength, branchOf, wordMetric}
+use Rattle.trellis.specs.Words.{OfLength, branchOf}
 use Rattle.trellis.specs.declared.Outcome.{Outcome}
 use Rattle.trellis.proofs.Distance.{distance}
 use Rattle.trellis.proofs.PathWord.{last-five}
@@ -29,35 +26,9 @@ use Rattle.trellis.proofs.Running.{slot-below}
 use Rattle.trellis.proofs.Searching.{found-to}
 use Rattle.tailbiting.specs.Rows.{outputAt, costAt, RowsTo, NumbersTo}
 use Rattle.tailbiting.specs.Starts.{endOf, tailMetric}
-use Rattle.tailbiting.specs.TailBiting.{allErasable, erasedDiffer, tailWeight}
+use Rattle.tailbiting.specs.TailBiting.{erasedDiffer, tailWeight}
+use Rattle.tailbiting.proofs.Erasable.{erased-le}
 use Rattle.tailbiting.proofs.Turns.{end-below, leads-end}
-
--- ---- bytes 0, 1 and 2
-cond-true : (a b : Bool) → cond a b false ≡ true → (a ≡ true) × (b ≡ true)
-cond-true true b e = (refl, e)
-cond-true false b e = absurd (false≢true e)
-
-pub erasable-at : (l : List ℕ) → allErasable l ≡ true → (k : ℕ) → k < length l → getD l k 0 < 3
-unfolding allErasable
-erasable-at [] e k h = absurd (not-suc-le-zero h)
-erasable-at (x ∷ l) e zero h = ltb-true x 3 (cond-true (ltb x 3) (allErasable l) e .0)
-erasable-at (x ∷ l) e (suc k) h = erasable-at l (cond-true (ltb x 3) (allErasable l) e .1) k (omega arith)
-
-pub erased-none : (sent : Bool) (received : ℕ) → received ≡ 2 → 0 ≡ erasedDiffer sent received
-unfolding erasedDiffer
-erased-none sent received e = rw (eq-eqb received 2 e)
-
-pub erased-seen : (sent : Bool) (received x : ℕ) → (received ≡ 2 → ⊥) → x ≡ differ sent (bit received) → x ≡ erasedDiffer sent received
-unfolding erasedDiffer
-erased-seen sent received x n e = rw (ne-eqb received 2 n) e
-
-erased-le : (sent : Bool) (received : ℕ) → erasedDiffer sent received ≤ 1
-unfolding erasedDiffer
-erased-le sent received = go (eqb received 2)
-  where
-    go : (t : Bool) → cond t 0 (differ sent (bit received)) ≤ 1
-    go true = omega arith
-    go false = differ-le sent (bit received)
 
 -- ---- one place
 tap-test : List Bool → ℕ → Bool → ℕ → Bool

@@ -3,7 +3,7 @@ use mathlib.Core.Path.{_≡_, refl, sym, ap, subst, _∙_}
 use mathlib.Core.Bool.{Bool}
 use mathlib.Core.List.{List}
 use mathlib.Core.Logic.{_⊎_, inl, inr}
-use Prim.Native.Nat.{ℕ, _+_, _-_, _%_, _<_, _≤_}
+use Prim.Native.Nat.{ℕ, _+_, _%_, _<_, _≤_}
 use native.Mathlib.Omega.{arith}
 use native.Mathlib.Decide.{ℕ-discrete}
 use lib.ListN.{length, getD, replicate, getD-replicate}

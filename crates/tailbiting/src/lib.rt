@@ -5,7 +5,7 @@ mod rows;
 use trellis::Outcome;
 ghost use mathlib.Core.Bool.{true};
 ghost use mathlib.Core.Path.{_≡_};
-ghost use Prim.Native.Nat.{_+_, _<_, _≤_};
+ghost use Prim.Native.Nat.{_+_, _<_};
 ghost use lib.ListN.{length};
 ghost use Rattle.trellis.specs.Engine.{Rows, branchBy};
 ghost use Rattle.trellis.specs.Search.{Found};

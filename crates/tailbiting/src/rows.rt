@@ -1,5 +1,5 @@
-// The branch metrics of the FACCH code against received bits, some of them unobserved.
 // Ported from 136-bts, facch.rs, and changed (see NOTICE).
+// The branch metrics of the FACCH code against received bits, some of them unobserved.
 use bits::differs;
 use coding::register::parity;
 ghost use mathlib.Core.Bool.{true};

@@ -1,5 +1,4 @@
 -- `tailbiting::better` meets its contract, by three ways out. Assumes nothing.
-use native.Mathlib.Omega.{arith}
 use borrow.Author.Needs.{needs}
 use Rattle.tailbiting.proofs.Joined.{run-less, best-less, both-even}
 use Rattle.tailbiting.proofs.better.Statement.{statement}

@@ -1,6 +1,5 @@
 -- `tailbiting::visit` meets its contract: one more start is tried or passed over. Assumes nothing.
-use mathlib.Core.Path.{refl, subst}
-use native.Mathlib.Omega.{arith}
+use mathlib.Core.Path.{refl}
 use borrow.Author.Needs.{needs}
 use Rattle.tailbiting.proofs.Turns.{passed, tried-run}
 use Rattle.tailbiting.proofs.visit.Statement.{statement}

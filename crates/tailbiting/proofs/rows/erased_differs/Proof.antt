@@ -1,7 +1,7 @@
 -- `tailbiting::rows::erased_differs` meets its contract. Assumes nothing.
 use native.Mathlib.Omega.{arith}
 use borrow.Author.Needs.{needs}
-use Rattle.tailbiting.proofs.Branches.{erased-none, erased-seen}
+use Rattle.tailbiting.proofs.Erasable.{erased-none, erased-seen}
 use Rattle.tailbiting.proofs.rows.erased_differs.Statement.{statement}
 use Rattle.tailbiting.proofs.rows.erased_differs.Tie as tie
 

@@ -6,7 +6,7 @@ use mathlib.Core.List.{[]}
 use lib.ListN.{length}
 use Rattle.bits.proofs.Filled.{Filling, filling-none, filling-more, filling-done}
 use Rattle.tailbiting.specs.Rows.{RowOf}
-use Rattle.tailbiting.proofs.Branches.{erasable-at}
+use Rattle.tailbiting.proofs.Erasable.{erasable-at}
 use Rattle.tailbiting.proofs.rows.fill_rows.Statement.{statement}
 use Rattle.tailbiting.proofs.rows.fill_rows.Tie as tie
 
