@@ -8,8 +8,8 @@ use lib.Bits.{bitAnd}
 use lib.Count.{ones}
 use lib.ListN.{length, getD, drop}
 use lib.Seq.{drop-cons}
-use Rattle.bits.specs.Bits.{bit, byte, bits, tally}
-use Rattle.bits.proofs.Tested.{below-bit, sameBit, sameBit-eq}
+use Rattle.bits.specs.Bits.{bit, byte, tally}
+use Rattle.bits.proofs.Tested.{below-bit, sameBits, sameBits-eq}
 use Rattle.bits.proofs.Binary.{bit-byte, byte-below, byte-bit-any}
 use Rattle.coding.specs.Codes.{tapped, outputs, coded, facch}
 use Rattle.coding.specs.Registers.{memoryLow}
@@ -31,24 +31,16 @@ use Rattle.tailbiting.proofs.Erasable.{erased-le}
 use Rattle.tailbiting.proofs.Turns.{end-below, leads-end}
 
 -- ---- one place
-tap-test : List Bool → ℕ → Bool → ℕ → Bool
-tap-test g taps b s = sameBit (outputAt taps (slotFrom s b)) (tapped g (b ∷ memoryLow s))
+abbrev outputsAt : ℕ → List Bool
+outputsAt slot = outputAt 0b111011 slot ∷ outputAt 0b100111 slot ∷ outputAt 0b101111 slot ∷ outputAt 0b110101 slot ∷ []
 
-first-output : (s : ℕ) (b : Bool) → s < 32 → outputAt 0b111011 (slotFrom s b) ≡ tapped (bits (1 ∷ 1 ∷ 0 ∷ 1 ∷ 1 ∷ 1 ∷ [])) (b ∷ memoryLow s)
-unfolding tap-test outputAt tapped ones
-first-output s b h = sameBit-eq _ _ (below-bit (tap-test (bits (1 ∷ 1 ∷ 0 ∷ 1 ∷ 1 ∷ 1 ∷ [])) 0b111011) 32 tt tt b s h)
+output-test : Bool → ℕ → Bool
+output-test b s = sameBits (outputsAt (slotFrom s b)) (outputs facch (b ∷ memoryLow s))
 
-second-output : (s : ℕ) (b : Bool) → s < 32 → outputAt 0b100111 (slotFrom s b) ≡ tapped (bits (1 ∷ 1 ∷ 1 ∷ 0 ∷ 0 ∷ 1 ∷ [])) (b ∷ memoryLow s)
-unfolding tap-test outputAt tapped ones
-second-output s b h = sameBit-eq _ _ (below-bit (tap-test (bits (1 ∷ 1 ∷ 1 ∷ 0 ∷ 0 ∷ 1 ∷ [])) 0b100111) 32 tt tt b s h)
-
-third-output : (s : ℕ) (b : Bool) → s < 32 → outputAt 0b101111 (slotFrom s b) ≡ tapped (bits (1 ∷ 1 ∷ 1 ∷ 1 ∷ 0 ∷ 1 ∷ [])) (b ∷ memoryLow s)
-unfolding tap-test outputAt tapped ones
-third-output s b h = sameBit-eq _ _ (below-bit (tap-test (bits (1 ∷ 1 ∷ 1 ∷ 1 ∷ 0 ∷ 1 ∷ [])) 0b101111) 32 tt tt b s h)
-
-fourth-output : (s : ℕ) (b : Bool) → s < 32 → outputAt 0b110101 (slotFrom s b) ≡ tapped (bits (1 ∷ 0 ∷ 1 ∷ 0 ∷ 1 ∷ 1 ∷ [])) (b ∷ memoryLow s)
-unfolding tap-test outputAt tapped ones
-fourth-output s b h = sameBit-eq _ _ (below-bit (tap-test (bits (1 ∷ 0 ∷ 1 ∷ 0 ∷ 1 ∷ 1 ∷ [])) 0b110101) 32 tt tt b s h)
+-- its output bits are those of the code
+place-outputs : (s : ℕ) (b : Bool) → s < 32 → outputsAt (slotFrom s b) ≡ outputs facch (b ∷ memoryLow s)
+unfolding output-test outputAt tapped ones
+place-outputs s b h = sameBits-eq (outputsAt (slotFrom s b)) (outputs facch (b ∷ memoryLow s)) (below-bit output-test 32 tt tt b s h)
 
 -- the parity of a count of ones, as a bit and as a byte
 pub output-byte : (taps slot register x : ℕ) → register ≡ (slot % 16 + slot / 32 * 16) * 2 + slot / 16 % 2 → x ≡ ones (bitAnd register taps) % 2 → x ≡ byte (outputAt taps slot)
@@ -65,6 +57,10 @@ place-cost taps slot x received a ex ea = ea ∙ ap (λ (p : Bool). erasedDiffer
 cost-le : (slot a b c d : ℕ) → costAt slot a b c d ≤ 4
 cost-le slot a b c d =
     omega (arith, erased-le (outputAt 0b111011 slot) a, erased-le (outputAt 0b100111 slot) b, erased-le (outputAt 0b101111 slot) c, erased-le (outputAt 0b110101 slot) d)
+
+cost-tally : (slot a b c d : ℕ) (r : List ℕ) → costAt slot a b c d ≡ tally erasedDiffer (outputsAt slot) (a ∷ b ∷ c ∷ d ∷ r)
+unfolding tally
+cost-tally slot a b c d r = omega arith
 
 -- ---- the metrics of the rows
 module _ (received symbols : List ℕ) (rows : List (List ℕ)) (height : length rows ≡ 65) (size : length symbols ≡ 65) (all : length received ≡ 260)
@@ -86,19 +82,12 @@ module _ (received symbols : List ℕ) (rows : List (List ℕ)) (height : length
       ∙ ap (λ (i : ℕ). getD received i 0 ∷ drop (suc (suc (suc (suc (k * 4))))) received) e3)))
 
   branches : (k s : ℕ) (b : Bool) → k < 65 → s < 32 → branchBy rows symbols k s b ≡ branchOf facch memoryLow erasedDiffer received k s b
-  unfolding branchBy branchOf tally
+  unfolding branchBy branchOf
   branches k s b hk hs =
-      let ra : ℕ = getD received (k * 4) 0 in
-      let rb : ℕ = getD received (k * 4 + 1) 0 in
-      let rc : ℕ = getD received (k * 4 + 2) 0 in
-      let rd : ℕ = getD received (k * 4 + 3) 0 in
-      let at : getD (getD rows (getD symbols k 0) []) (slotFrom s b) 0 ≡ costAt (slotFrom s b) ra rb rc rd =
-      ap (λ (i : ℕ). getD (getD rows i []) (slotFrom s b) 0) (numbered k hk) ∙ filled k hk (slotFrom s b) (slot-below s b hs) in
-      let e0 : erasedDiffer (outputAt 0b111011 (slotFrom s b)) ra ≡ erasedDiffer (tapped (bits (1 ∷ 1 ∷ 0 ∷ 1 ∷ 1 ∷ 1 ∷ [])) (b ∷ memoryLow s)) ra = ap (λ (p : Bool). erasedDiffer p ra) (first-output s b hs) in
-      let e1 : erasedDiffer (outputAt 0b100111 (slotFrom s b)) rb ≡ erasedDiffer (tapped (bits (1 ∷ 1 ∷ 1 ∷ 0 ∷ 0 ∷ 1 ∷ [])) (b ∷ memoryLow s)) rb = ap (λ (p : Bool). erasedDiffer p rb) (second-output s b hs) in
-      let e2 : erasedDiffer (outputAt 0b101111 (slotFrom s b)) rc ≡ erasedDiffer (tapped (bits (1 ∷ 1 ∷ 1 ∷ 1 ∷ 0 ∷ 1 ∷ [])) (b ∷ memoryLow s)) rc = ap (λ (p : Bool). erasedDiffer p rc) (third-output s b hs) in
-      let e3 : erasedDiffer (outputAt 0b110101 (slotFrom s b)) rd ≡ erasedDiffer (tapped (bits (1 ∷ 0 ∷ 1 ∷ 0 ∷ 1 ∷ 1 ∷ [])) (b ∷ memoryLow s)) rd = ap (λ (p : Bool). erasedDiffer p rd) (fourth-output s b hs) in
-      at ∙ sym (ap (tally erasedDiffer (outputs facch (b ∷ memoryLow s))) (step k hk) ∙ omega arith)
+      ap (λ (i : ℕ). getD (getD rows i []) (slotFrom s b) 0) (numbered k hk)
+      ∙ filled k hk (slotFrom s b) (slot-below s b hs)
+      ∙ cost-tally (slotFrom s b) (getD received (k * 4) 0) (getD received (k * 4 + 1) 0) (getD received (k * 4 + 2) 0) (getD received (k * 4 + 3) 0) _
+      ∙ ap₂ (tally erasedDiffer) (place-outputs s b hs) (sym (step k hk))
 
   -- no branch metric is above four
   pub modest : Rows rows symbols

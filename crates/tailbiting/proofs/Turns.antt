@@ -24,7 +24,7 @@ unfolding endOf
 end-below u = state-below newestLow register-low 0 u (omega arith)
 
 -- it does not depend on the start
-pub end-from : (s : ℕ) (u : List Bool) → s < 32 → length u ≡ 65 → stateAfter newestLow s u ≡ endOf u
+end-from : (s : ℕ) (u : List Bool) → s < 32 → length u ≡ 65 → stateAfter newestLow s u ≡ endOf u
 unfolding endOf
 end-from s u hs l =
     register-low .memory-one (stateAfter newestLow s u) (stateAfter newestLow 0 u) (state-below newestLow register-low s u hs) (state-below newestLow register-low 0 u (omega arith))
@@ -57,12 +57,12 @@ bounded branch ps₀ ps n ms f e u l =
       zeros s (end-below u),
     )
 
-module _ (branch : ℕ → ℕ → Bool → ℕ) where
-  -- ---- the run from a start finds among the words whose turn it is
-  pub record TriedAt (first k : ℕ) (u : List Bool) : Type 0 where
-    pub steps : length u ≡ 65
-    pub turn : turnOf first (endOf u) ≡ k
+-- ---- the run from a start finds among the words whose turn it is
+pub record TriedAt (first k : ℕ) (u : List Bool) : Type 0 where
+  pub steps : length u ≡ 65
+  pub turn : turnOf first (endOf u) ≡ k
 
+module _ (branch : ℕ → ℕ → Bool → ℕ) where
   metric-from : (s : ℕ) (u : List Bool) → endOf u ≡ s → wordMetric newestLow branch s u ≡ tailMetric branch u
   unfolding tailMetric
   metric-from s u e = ap (λ (r : ℕ). wordMetric newestLow branch r u) (sym e)
@@ -77,7 +77,7 @@ module _ (branch : ℕ → ℕ → Bool → ℕ) where
     end-is : (u : List Bool) → turnOf first (endOf u) ≡ k → endOf u ≡ s
     end-is u e = let h : endOf u < 32 = end-below u in omega arith
 
-    pub at-turn : (bits : List ℕ) (r : Outcome) (n : ℕ) → n ≡ 65 → FoundFirst (Leads newestLow s s n) (wordMetric newestLow branch s) bits r → Found (TriedAt first k) (tailMetric branch) bits r
+    at-turn : (bits : List ℕ) (r : Outcome) (n : ℕ) → n ≡ 65 → FoundFirst (Leads newestLow s s n) (wordMetric newestLow branch s) bits r → Found (TriedAt first k) (tailMetric branch) bits r
     at-turn bits r n e f =
         found-to
         (λ u d. record { steps = d .steps; turn = turn-is u (end-of s u below d) })
