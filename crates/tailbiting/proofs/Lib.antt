@@ -1,0 +1,5 @@
+-- The laws.
+pub mod Erasable
+pub mod Joined
+pub mod Turns
+pub mod Branches

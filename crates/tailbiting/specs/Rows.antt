@@ -1,0 +1,43 @@
+-- The rows of branch metrics of the engine, by place: the state has its newest input lowest.
+use mathlib.Core.Path.{_≡_}
+use mathlib.Core.Bool.{Bool}
+use mathlib.Core.List.{List, []}
+use Prim.Native.Nat.{ℕ, _+_, _*_, _/_, _%_, _<_}
+use lib.Bits.{bitAnd}
+use lib.Count.{ones}
+use lib.ListN.{getD}
+use Rattle.bits.specs.Bits.{bit, byte}
+use Rattle.tailbiting.specs.TailBiting.{erasedDiffer}
+
+-- the register of a place: the state with the input below it
+abbrev pub registerAt : ℕ → ℕ
+registerAt slot = (slot % 16 + slot / 32 * 16) * 2 + slot / 16 % 2
+
+-- an output bit of a place
+unfoldable pub outputAt : ℕ → ℕ → Bool
+outputAt taps slot = bit (ones (bitAnd (registerAt slot) taps))
+
+-- the first k places of a list hold the output bits of a generator
+abbrev pub OutputsTo : ℕ → List ℕ → ℕ → Type 0
+OutputsTo taps l k = (slot : ℕ) → slot < k → getD l slot 0 ≡ byte (outputAt taps slot)
+
+-- the branch metric of a place against four received bytes
+abbrev pub costAt : ℕ → ℕ → ℕ → ℕ → ℕ → ℕ
+costAt slot a b c d =
+    erasedDiffer (outputAt 0b111011 slot) a + erasedDiffer (outputAt 0b100111 slot) b + (erasedDiffer (outputAt 0b101111 slot) c + erasedDiffer (outputAt 0b110101 slot) d)
+
+-- the first k places of a row hold the branch metrics against four received bytes
+abbrev pub CostsTo : ℕ → ℕ → ℕ → ℕ → List ℕ → ℕ → Type 0
+CostsTo a b c d row k = (slot : ℕ) → slot < k → getD row slot 0 ≡ costAt slot a b c d
+
+-- a row is that of the step k
+abbrev pub RowOf : List ℕ → ℕ → List ℕ → Type 0
+RowOf received k row = CostsTo (getD received (k * 4) 0) (getD received (k * 4 + 1) 0) (getD received (k * 4 + 2) 0) (getD received (k * 4 + 3) 0) row 64
+
+-- the first n rows are those of their steps
+abbrev pub RowsTo : List ℕ → List (List ℕ) → ℕ → Type 0
+RowsTo received rows n = (k : ℕ) → k < n → RowOf received k (getD rows k [])
+
+-- each of the first n steps has a row of its own
+abbrev pub NumbersTo : List ℕ → ℕ → Type 0
+NumbersTo symbols n = (k : ℕ) → k < n → getD symbols k 0 ≡ k
