@@ -89,7 +89,7 @@ fn every_kind() {
     for format in FORMATS {
         for kind in KINDS {
             let mut answers = Answers::default();
-            for _ in 0..2500 {
+            for _ in 0..3200 {
                 let channel = Channel::draw(&mut p, format);
                 let block = channel.block(&mut p, kind);
                 decode(&mut answers, channel, &block);

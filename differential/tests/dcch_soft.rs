@@ -38,7 +38,7 @@ fn every_size() {
     for sizes in ALL_SIZES {
         for format in FORMATS {
             let mut answers = Answers::default();
-            for kind in KINDS.into_iter().flat_map(|kind| [kind; 350]) {
+            for kind in KINDS.into_iter().flat_map(|kind| [kind; 400]) {
                 let channel = channel(&mut p, format);
                 let block = sizes.block(&mut p, channel, kind);
                 decode(&mut answers, channel, &block);
@@ -58,7 +58,7 @@ fn mixtures() {
     let mut tally = Tally::new("DCCH soft decode, mixtures");
     for format in FORMATS {
         let mut answers = Answers::default();
-        for kind in KINDS.into_iter().flat_map(|kind| [kind; 500]) {
+        for kind in KINDS.into_iter().flat_map(|kind| [kind; 700]) {
             let channel = channel(&mut p, format);
             let bits = channel.block(&mut p, kind);
             let few = 1 + p.below(ALL_SIZES.len());
