@@ -51,8 +51,7 @@ modeOf broadcast = cond broadcast Broadcast Addressed
 -- ---- a search
 -- Length where a length is no number of pairs from 5 to 130
 unfoldable pub lentPairs : ℕ → Lent
-lentPairs length =
-    cond (ltb length 10) (exactOf 260 length) (cond (ltb 260 length) (exactOf 260 length) (cond (eqb (length % 2) 1) (exactOf 260 length) Fine))
+lentPairs n = cond (ltb n 10) (exactOf 260 n) (cond (ltb 260 n) (exactOf 260 n) (cond (eqb (n % 2) 1) (exactOf 260 n) Fine))
 
 -- what was received, then a bit of the word for each pair, then the symbols
 abbrev pub lentBlock : List ℕ → ℕ → Lent
