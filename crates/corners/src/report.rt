@@ -3,6 +3,10 @@ use bits::Refusal;
 use dcch::Decoded;
 use dcch::Encoded;
 use libc::STDOUT_FILENO;
+ghost use mathlib.Core.Bool.{true};
+ghost use mathlib.Core.Path.{_≡_};
+ghost use Prim.Native.Nat.{ℕ, _<_};
+ghost use lib.ListN.{getD, length};
 
 // What a slice holds before a call: no bit, so that a byte written or left alone is seen.
 pub const UNTOUCHED: u8 = 9;
@@ -15,7 +19,9 @@ fn number(n: usize) {
     io::print_decimal(STDOUT_FILENO, n as u64);
 }
 
-fn all_are(lent: &[u8], value: u8) -> bool {
+fn all_are(lent: &[u8], value: u8) -> bool
+    ensures { λ r. ⌜ (r ≡ true → (i : ℕ) → i < length (now (lent .entry)) → getD (now (lent .entry)) i 0 ≡ value) ⌝ }
+{
     for i in 0..lent.len() {
         if lent[i] != value {
             return false;
