@@ -1,0 +1,5 @@
+-- The laws.
+pub mod Table
+pub mod Columns
+pub mod Passing
+pub mod Answering

@@ -1,0 +1,3 @@
+-- FACCH words: the slot order, the word and its coded bits, and the calls.
+pub mod Calls
+pub mod Wire
