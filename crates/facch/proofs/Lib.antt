@@ -3,3 +3,5 @@ pub mod Table
 pub mod Columns
 pub mod Passing
 pub mod Answering
+pub mod WordBits
+pub mod Biting
