@@ -5,3 +5,4 @@ pub mod Passing
 pub mod Answering
 pub mod WordBits
 pub mod Biting
+pub mod Halves
