@@ -18,8 +18,8 @@ pub row-and-column : (wire : ℕ) → wire < 260 → (wire / 10 < 26) × (wire %
 row-and-column wire h = (omega arith, omega arith)
 
 -- a place of a word
-pub in-word : {wire place n : ℕ} → wire < 260 → place ≡ placeAt wire → n ≡ 260 → place < n
-in-word {wire} h e l = omega (arith, place-below wire h)
+pub in-word : {wire place : ℕ} → wire < 260 → place ≡ placeAt wire → place < 260
+in-word {wire} h e = omega (arith, place-below wire h)
 
 -- ---- `gather`: the bits passed hold their places' elements
 pub record Gathering (previous current slot : List ℕ) (k : ℕ) : Type 0 where

@@ -13,7 +13,7 @@ use Rattle.bits.specs.Numbers.{unpacked}
 use Rattle.bits.specs.Refusals.{exactOf}
 use Rattle.bits.specs.declared.Lent.{Lent}
 use Rattle.bits.specs.declared.Lent.the-variants.{Fine}
-use Rattle.bits.proofs.Binary.{bits-bytes, bytes-append, binary-bytes}
+use Rattle.bits.proofs.Binary.{bits-bytes, bytes-append, binary-bytes, binary-take}
 use Rattle.bits.proofs.LentPart.{part-length}
 use Rattle.bits.proofs.Packed.{unpacked-length}
 use Rattle.bits.proofs.Refusing.{fine-first, fine-exact}
@@ -68,12 +68,14 @@ module _ (continuation : Bool) (message : ℕ) {word : List ℕ} (zeros : word �
     unfolding filled
     filled-length = ap length filled-is ∙ length-append (bytes information) (replicate 16 0) ∙ ap (λ (n : ℕ). n + 16) size
 
-    pub information-part : 49 ≡ length (take 49 (putMid 1 48 (set word 0 (boolByte continuation)) part))
-    information-part = part-length 49 (putMid 1 48 (set word 0 (boolByte continuation)) part) (omega (arith, filled-length))
+    pub part-of : (n : ℕ) → n ≤ 65 → n ≡ length (take n (putMid 1 48 (set word 0 (boolByte continuation)) part))
+    part-of n h = part-length n (putMid 1 48 (set word 0 (boolByte continuation)) part) (omega (arith, filled-length))
 
-    pub information-binary : allBinary (take 49 (putMid 1 48 (set word 0 (boolByte continuation)) part)) ≡ true
+    pub part-binary : (n : ℕ) → allBinary (take n (putMid 1 48 (set word 0 (boolByte continuation)) part)) ≡ true
     unfolding filled
-    information-binary = ap allBinary front ∙ binary-bytes information
+    part-binary n =
+        binary-take n filled
+        (ap allBinary (filled-is ∙ sym (bytes-append information (replicate 16 false))) ∙ binary-bytes (information ++ replicate 16 false))
 
     -- and the checksum after it
     pub word-filled : (dvcc : ℕ) {checksum : ℕ} {rest : List ℕ}

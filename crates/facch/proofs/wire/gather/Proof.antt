@@ -1,6 +1,6 @@
 -- `facch::wire::gather` meets its contract: the bits passed hold their places' bytes. Assumes nothing.
-use mathlib.Core.Path.{_≡_, refl, sym, subst, _∙_}
-use Prim.Native.Nat.{ℕ, _-_, _<_}
+use mathlib.Core.Path.{_≡_, refl, sym, _∙_}
+use Prim.Native.Nat.{_-_}
 use native.Mathlib.Omega.{arith}
 use lib.ListN.{length}
 use Rattle.facch.proofs.Passing.{Gathering, gathering-none, gathering-more, gathering-done, row-and-column, in-word}
@@ -21,12 +21,10 @@ index-requires : tie.Need-index-requires Inv-loop μ-loop
 index-requires c κs = row-and-column _ (omega arith)
 
 by-row-requires : tie.Need-by-row-requires Inv-loop μ-loop
-by-row-requires c κs =
-    let pre = c .before .before .before .before .before .before .pre in
-    (in-word (omega arith) (c .index .ensures) (pre .0), in-word (omega arith) (c .index .ensures) (pre .1))
+by-row-requires c κs = (omega (arith, in-word (omega arith) (c .index .ensures)), omega (arith, in-word (omega arith) (c .index .ensures)))
 
 slice-write-slot : tie.Need-slice-write-slot Inv-loop μ-loop
-slice-write-slot c = omega (arith, c .before .before .before .loop .inv .1 .filling .size)
+slice-write-slot c = omega (arith, c .before .before .before .loop .inv .1 .filling .size, in-word (omega arith) (c .before .index .ensures))
 
 add-wire : tie.Need-add-wire Inv-loop μ-loop
 add-wire c = search needs

@@ -1,6 +1,6 @@
 -- `facch::wire::spread` meets its contract: the places of the bits passed hold the bytes. Assumes nothing.
-use mathlib.Core.Path.{_≡_, refl, sym, subst, _∙_}
-use Prim.Native.Nat.{ℕ, _-_, _<_}
+use mathlib.Core.Path.{_≡_, refl, sym, _∙_}
+use Prim.Native.Nat.{_-_}
 use native.Mathlib.Omega.{arith}
 use lib.ListN.{length}
 use Rattle.facch.proofs.Passing.{Spreading, spreading-none, spreading-more, spreading-done, row-and-column, in-word}
@@ -21,10 +21,10 @@ index-requires : tie.Need-index-requires Inv-loop μ-loop
 index-requires c κs = row-and-column _ (omega arith)
 
 by-row-requires : tie.Need-by-row-requires Inv-loop μ-loop
-by-row-requires c κs = (omega arith, omega arith)
+by-row-requires c κs = (omega (arith, in-word (omega arith) (c .index .ensures)), omega (arith, in-word (omega arith) (c .index .ensures)))
 
 slice-write-coded : tie.Need-slice-write-coded Inv-loop μ-loop
-slice-write-coded c = in-word (omega arith) (c .before .index .ensures) (c .before .before .before .loop .inv .1 .size)
+slice-write-coded c = omega (arith, c .before .before .before .loop .inv .1 .size, in-word (omega arith) (c .before .index .ensures))
 
 add-wire : tie.Need-add-wire Inv-loop μ-loop
 add-wire c = search needs

@@ -1,4 +1,5 @@
 -- `facch::word::encode_word` meets its contract: two runs, the second from the memory that the first leaves. Assumes nothing.
+use native.Mathlib.Omega.{arith}
 use Rattle.facch.proofs.Biting.{first-part, five-bits, asks-rest, asks-first, bitten}
 use borrow.Author.Needs.{needs}
 use Rattle.facch.proofs.word.encode_word.Statement.{statement}
@@ -38,7 +39,7 @@ part-convolutional-encode-end-2 : tie.Need-part-convolutional-encode-end-2
 part-convolutional-encode-end-2 c = search needs
 
 convolutional-encode-requires-2 : tie.Need-convolutional-encode-requires-2
-convolutional-encode-requires-2 c κs = asks-first (c .before .before .before .before .before .before .before .before .before .before .args .word .now) (c .before .before .before .before .before .before .before .before .before .before .args .coded .now) (c .before .before .before .before .before .before .before .before .before .before .pre .0) (c .before .before .before .before .before .before .before .before .before .before .pre .1) (c .before .before .before .before .before .before .before .before .before .before .pre .2) (c .before .before .before .before .convolutional-encode .last .1 .1 .0) (c .before .before .before .before .convolutional-encode .kept .1 .1 .0) (c .before .before .before .before .convolutional-encode .ensures .below)
+convolutional-encode-requires-2 c κs = asks-first (c .before .before .before .before .before .before .before .before .before .before .args .word .now) (c .before .before .before .before .before .before .before .before .before .before .args .coded .now) (c .before .before .before .before .before .before .before .before .before .before .pre .0) (c .before .before .before .before .before .before .before .before .before .before .pre .1) (c .before .before .before .before .before .before .before .before .before .before .pre .2) (c .before .before .before .before .convolutional-encode .last .1 .1 .0) (c .before .before .before .before .convolutional-encode .kept .1 .1 .0) (omega (arith, c .before .before .before .before .convolutional-encode .ensures .below, c .before .before .before .before .before .before .before .start-memory .ensures .0))
 
 same-length : tie.Need-same-length
 same-length c = search needs

@@ -1,6 +1,6 @@
 -- `facch::word::fill_word` meets its contract: the flag, the message, and the checksum of both. Assumes nothing.
 use native.Mathlib.Omega.{arith}
-use Rattle.facch.proofs.WordBits.{flag-room, message-room, filled-length, information-part, information-binary, word-filled, word-kept}
+use Rattle.facch.proofs.WordBits.{flag-room, message-room, filled-length, part-of, part-binary, word-filled, word-kept}
 use borrow.Author.Needs.{needs}
 use Rattle.facch.proofs.word.fill_word.Statement.{statement}
 use Rattle.facch.proofs.word.fill_word.Tie as tie
@@ -27,10 +27,10 @@ slice-reshare-prefix-checksum-of-bits : tie.Need-slice-reshare-prefix-checksum-o
 slice-reshare-prefix-checksum-of-bits c = omega (arith, filled-length (c .before .before .before .before .before .args .continuation) (c .before .before .before .before .before .args .message) (c .before .before .before .before .before .pre) (c .before .before .unpack .ensures))
 
 slice-aggregate-checksum-of-bits : tie.Need-slice-aggregate-checksum-of-bits
-slice-aggregate-checksum-of-bits c = information-part (c .before .before .before .before .before .before .args .continuation) (c .before .before .before .before .before .before .args .message) (c .before .before .before .before .before .before .pre) (c .before .before .before .unpack .ensures)
+slice-aggregate-checksum-of-bits c = part-of (c .before .before .before .before .before .before .args .continuation) (c .before .before .before .before .before .before .args .message) (c .before .before .before .before .before .before .pre) (c .before .before .before .unpack .ensures) _ (omega arith)
 
 checksum-of-bits-requires : tie.Need-checksum-of-bits-requires
-checksum-of-bits-requires c κs = information-binary (c .before .before .before .before .before .before .args .continuation) (c .before .before .before .before .before .before .args .message) (c .before .before .before .before .before .before .pre) (c .before .before .before .unpack .ensures)
+checksum-of-bits-requires c κs = search (part-binary (c .before .before .before .before .before .before .args .continuation) (c .before .before .before .before .before .before .args .message) (c .before .before .before .before .before .before .pre) (c .before .before .before .unpack .ensures))
 
 cast-unpack : tie.Need-cast-unpack
 cast-unpack c = search needs
