@@ -8,43 +8,30 @@ use lib.Dec.{eqb, ltb}
 use lib.ListN.{length, getD, replicate, getD-replicate}
 use borrow.Author.Tests.{lt-ltb}
 use Rattle.bits.specs.Bits.{byte, allBinary}
+use Rattle.bits.specs.Refusals.{accepted}
 use Rattle.bits.specs.Places.{listed, placeIn}
 use Rattle.bits.proofs.Binary.{binary-at}
-use Rattle.bits.proofs.Listed.{length-listed, getD-listed, is-listed}
+use Rattle.bits.proofs.Listed.{is-listed}
+use Rattle.bits.specs.declared.Lent.the-variants.{Fine}
+use Rattle.facch.specs.declared.Placed.{Placed}
 use Rattle.facch.specs.declared.WordHalf.{WordHalf}
 use Rattle.facch.specs.declared.WordHalf.the-variants.{Start, End}
-use Rattle.facch.specs.Wire.{table, placeOf, placeAt, wireOf, byRow, interleaved, deinterleaved, observed}
+use Rattle.facch.specs.Wire.{table, placeOf, placeAt, wireOf, byRow, interleaved, deinterleaved, observed, lentTwo, placedAnswer, Interleaving, Deinterleaving}
 use Rattle.facch.proofs.Table.{wire-below, place-of-wire}
+use Rattle.facch.proofs.Interleaved.{interleaved-length, interleaved-at, deinterleaved-at, binary-interleaved}
+use Rattle.facch.proofs.Answering.{two-fine, two-bits, fine-two}
 
 module _ {A : Type 0} (d : A) where
-  pub interleaved-length : (previous current : List A) → length (interleaved d previous current) ≡ 260
-  unfolding interleaved
-  interleaved-length previous current = length-listed 260 _
-
-  pub deinterleaved-length : (first second : List A) → length (deinterleaved d first second) ≡ 260
-  unfolding deinterleaved
-  deinterleaved-length first second = length-listed 260 _
-
-  pub interleaved-at : (previous current : List A) (wire : ℕ) → wire < 260
-      → getD (interleaved d previous current) wire d ≡ getD (byRow wire previous current) (placeAt wire) d
-  unfolding interleaved
-  interleaved-at previous current wire h = getD-listed 260 _ d wire h
-
-  pub deinterleaved-at : (first second : List A) (place : ℕ) → place < 260
-      → getD (deinterleaved d first second) place d ≡ getD (byRow (wireOf place) second first) (wireOf place) d
-  unfolding deinterleaved
-  deinterleaved-at first second place h = getD-listed 260 _ d place h
-
   -- what a slot carries of a word: its even rows of the one before it, its odd rows of its own
   module _ (word : List A) (place : ℕ) (h : place < 260) where
     carried : (u : List A) → u ≡ word → getD u (placeAt (wireOf place)) d ≡ getD word place d
     carried u e = ap₂ (λ (l : List A) (p : ℕ). getD l p d) e (place-of-wire place h)
 
     pub even-row : (next : List A) → eqb (wireOf place / 10 % 2) 0 ≡ true → getD (interleaved d word next) (wireOf place) d ≡ getD word place d
-    even-row next e = interleaved-at word next (wireOf place) (wire-below place h) ∙ carried _ (ap (λ (b : Bool). cond b word next) e)
+    even-row next e = interleaved-at d word next (wireOf place) (wire-below place h) ∙ carried _ (ap (λ (b : Bool). cond b word next) e)
 
     pub odd-row : (previous : List A) → eqb (wireOf place / 10 % 2) 0 ≡ false → getD (interleaved d previous word) (wireOf place) d ≡ getD word place d
-    odd-row previous e = interleaved-at previous word (wireOf place) (wire-below place h) ∙ carried _ (ap (λ (b : Bool). cond b previous word) e)
+    odd-row previous e = interleaved-at d previous word (wireOf place) (wire-below place h) ∙ carried _ (ap (λ (b : Bool). cond b previous word) e)
 
   -- ---- two slots
   pub round-trip : (previous word next : List A) → length word ≡ 260 → deinterleaved d (interleaved d previous word) (interleaved d word next) ≡ word
@@ -58,6 +45,22 @@ module _ {A : Type 0} (d : A) where
           ap (λ (b : Bool). getD (cond b (interleaved d word next) (interleaved d previous word)) (wireOf place) d) e ∙ even-row word place h next e
       go place h false e =
           ap (λ (b : Bool). getD (cond b (interleaved d word next) (interleaved d previous word)) (wireOf place) d) e ∙ odd-row word place h previous e
+
+-- the same of the calls
+pub calls-round-trip : (previous word next : List ℕ) (r r′ r″ : Placed) {slot₀ slot slot₀′ slot′ coded₀ coded : List ℕ}
+    → lentTwo previous word (length slot₀) ≡ Fine → lentTwo word next (length slot₀′) ≡ Fine → length coded₀ ≡ 260
+    → Interleaving previous word slot₀ slot r → Interleaving word next slot₀′ slot′ r′ → Deinterleaving slot slot′ coded₀ coded r″
+    → (placedAnswer r″ ≡ accepted tt) × (coded ≡ word)
+calls-round-trip previous word next r r′ r″ {slot₀} {slot} {slot₀′} {slot′} {coded₀} {coded} f f′ room i i′ e =
+    let a = two-bits previous word (length slot₀) f in
+    let b = two-bits word next (length slot₀′) f′ in
+    let s : slot ≡ interleaved 0 previous word = i .done f .1 in
+    let s′ : slot′ ≡ interleaved 0 word next = i′ .done f′ .1 in
+    let fine : lentTwo slot slot′ (length coded₀) ≡ Fine =
+    fine-two slot slot′ (length coded₀) (ap length s ∙ interleaved-length 0 previous word) (ap length s′ ∙ interleaved-length 0 word next) room
+    (ap allBinary s ∙ binary-interleaved previous word (a .0) (a .1)) (ap allBinary s′ ∙ binary-interleaved word next (b .0) (b .1)) in
+    let d = e .done fine in
+    (d .0, d .1 ∙ ap₂ (deinterleaved 0) s s′ ∙ round-trip 0 previous word next (two-fine previous word (length slot₀) refl f .1))
 
 -- ---- one slot
 module _ (word : List ℕ) (place : ℕ) (h : place < 260) where

@@ -5,4 +5,5 @@ pub mod Passing
 pub mod Answering
 pub mod WordBits
 pub mod Biting
+pub mod Interleaved
 pub mod Halves
