@@ -1,5 +1,6 @@
 -- The laws that every crate cites.
 pub mod Tested
+pub mod Listed
 pub mod Filled
 pub mod LentPart
 pub mod Ring

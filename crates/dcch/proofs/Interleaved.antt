@@ -10,7 +10,7 @@ use Rattle.dcch.specs.declared.BlockFormat.{BlockFormat}
 use Rattle.dcch.specs.Formats.{encodedBits}
 use Rattle.dcch.specs.Wire.{wireOrder, cellAt, wireOf, interleaved, deinterleaved}
 use Rattle.dcch.proofs.Wiring.{order-length, cell-below, wire-below, wire-of-cell, cell-of-wire}
-use Rattle.dcch.proofs.Listed.{length-listed, getD-listed, is-listed, map-taken, taken-back}
+use Rattle.bits.proofs.Listed.{length-listed, getD-listed, is-listed, map-taken, taken-back}
 
 module _ {A : Type 0} (f : BlockFormat) (d : A) (l : List A) where
   pub interleaved-length : length (interleaved f d l) ≡ encodedBits f

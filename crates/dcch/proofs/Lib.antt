@@ -1,6 +1,5 @@
 -- The laws.
 pub mod Wiring
-pub mod Listed
 pub mod Interleaved
 pub mod Passing
 pub mod TableRows

@@ -13,7 +13,7 @@ use Rattle.dcch.specs.declared.BlockFormat.{BlockFormat}
 use Rattle.dcch.specs.Formats.{encodedBits, rowsOf}
 use Rattle.dcch.specs.Wire.{cellAt, wireOf, nextCell, interleaved, deinterleaved}
 use Rattle.dcch.proofs.Wiring.{format-small, first-cell, next-cell, cell-below, wire-below, wire-of-cell, cell-of-wire}
-use Rattle.dcch.proofs.Listed.{is-listed}
+use Rattle.bits.proofs.Listed.{is-listed}
 
 -- ---- while a wire is left, the loop stands at its cell
 abbrev pub Standing : BlockFormat → ℕ → ℕ → Type 0

@@ -6,11 +6,12 @@ use Prim.Native.Nat.{ℕ, _+_, _-_, _<_, _≤_}
 use native.Mathlib.Omega.{arith}
 use lib.Dec.{T, eqb, ltb, eqb→eq, ltb→lt}
 use lib.ListN.{length}
+use Rattle.bits.specs.Places.{placeIn}
 use Rattle.bits.proofs.Tested.{both, both-left, both-right, every, below}
 use Rattle.dcch.specs.declared.BlockFormat.{BlockFormat}
 use Rattle.dcch.specs.declared.BlockFormat.the-variants.{Forward, ReverseNormal, ReverseAbbreviated}
 use Rattle.dcch.specs.Formats.{encodedBits, rowsOf}
-use Rattle.dcch.specs.Wire.{across, everySecond, wireOrder, cellAt, placeIn, wireOf, nextCell}
+use Rattle.dcch.specs.Wire.{across, everySecond, wireOrder, cellAt, wireOf, nextCell}
 
 pub order-length : (f : BlockFormat) → length (wireOrder f) ≡ encodedBits f
 unfolding across everySecond wireOrder

@@ -2,8 +2,9 @@
 use mathlib.Core.Bool.{cond}
 use mathlib.Core.List.{List, [], _∷_, _++_}
 use Prim.Native.Nat.{ℕ, zero, suc, _+_, _%_}
-use lib.Dec.{eqb, ltb}
+use lib.Dec.{ltb}
 use lib.ListN.{getD}
+use Rattle.bits.specs.Places.{listed, placeIn}
 use Rattle.dcch.specs.declared.BlockFormat.{BlockFormat}
 use Rattle.dcch.specs.Formats.{encodedBits, rowsOf}
 
@@ -25,21 +26,12 @@ wireOrder f = everySecond (rowsOf f) (encodedBits f) (rowsOf f) 0 ++ everySecond
 unfoldable pub cellAt : BlockFormat → ℕ → ℕ
 cellAt f wire = getD (wireOrder f) wire 0
 
-unfoldable pub placeIn : List ℕ → ℕ → ℕ
-placeIn [] cell = 0
-placeIn (c ∷ order) cell = cond (eqb c cell) 0 (suc (placeIn order cell))
-
 unfoldable pub wireOf : BlockFormat → ℕ → ℕ
 wireOf f cell = placeIn (wireOrder f) cell
 
 -- the wire order by a rule: after a cell comes the next of its row, past the row's end the start of the row two on, and past the even rows the start of row 1
 unfoldable pub nextCell : ℕ → ℕ → ℕ → ℕ
 nextCell rows cells cell = cond (ltb (cell + rows) cells) (cell + rows) (cond (ltb (cell % rows + 2) rows) (cell % rows + 2) 1)
-
--- f 0 to f (n - 1)
-unfoldable pub listed : {A : Type 0} → ℕ → (ℕ → A) → List A
-listed zero f = []
-listed (suc n) f = f 0 ∷ listed n (λ (i : ℕ). f (suc i))
 
 -- what is sent of the cells, and the cells of what was received; d stands for an element that a list lacks
 unfoldable pub interleaved : {A : Type 0} → BlockFormat → A → List A → List A

@@ -5,12 +5,13 @@ use native.Mathlib.Omega.{arith}
 use lib.ListN.{length, length-set}
 use borrow.Author.Needs.{needs}
 use Rattle.bits.proofs.Binary.{binary-at}
+use Rattle.coding.specs.Codes.{dcch}
 use Rattle.coding.proofs.Encoding.{Encoding, encoding-none, encoding-more, encoding-done}
 use Rattle.coding.proofs.dcch.convolutional_encode.Statement.{statement}
 use Rattle.coding.proofs.dcch.convolutional_encode.Tie as tie
 
 abbrev Inv-loop : tie.InvT-loop
-Inv-loop state input coded₀ at₀ i₀ i-end coded at i = (i-end ≡ length input) × Encoding state input coded₀ coded at i
+Inv-loop state input coded₀ at₀ i₀ i-end coded at i = (i-end ≡ length input) × Encoding dcch state input coded₀ coded at i
 
 abbrev μ-loop : tie.MeasureT-loop
 μ-loop state input coded₀ at₀ i₀ i-end coded at i = i-end - i

@@ -6,7 +6,7 @@ use native.Mathlib.Omega.{arith}
 use native.Mathlib.Nat.{not-suc-le-zero}
 use lib.ListN.{length, getD, List·getD-map}
 use lib.Seq.{ext-getD}
-use Rattle.dcch.specs.Wire.{listed}
+use Rattle.bits.specs.Places.{listed}
 
 pub length-listed : {A : Type 0} (n : ℕ) (f : ℕ → A) → length (listed n f) ≡ n
 unfolding listed

@@ -1,0 +1,64 @@
+-- The ways out of a call that writes bits: refused, or done; and what Fine says. Assumes nothing.
+use mathlib.Core.Path.{_≡_, refl, sym, ap, ap₂, _∙_}
+use mathlib.Core.Bool.{Bool, true, cond}
+use mathlib.Core.List.{List}
+use Prim.Native.Nat.{ℕ}
+use lib.ListN.{length}
+use lib.Dec.{eqb}
+use borrow.Author.Tests.{eq-eqb}
+use Rattle.bits.specs.Bits.{allBinary}
+use Rattle.bits.specs.Refusals.{accepted, refused, firstOf, exactOf, binaryOf}
+use Rattle.bits.specs.declared.Lent.{Lent}
+use Rattle.bits.specs.declared.Lent.the-variants.{Fine, Refused}
+use Rattle.bits.specs.declared.Refusal.{Refusal}
+use Rattle.bits.specs.declared.Refusal.the-variants.{Symbol}
+use Rattle.bits.proofs.Refusing.{never-both, fine-first, fine-exact, fine-binary}
+use Rattle.facch.specs.Calls.{Written}
+use Rattle.facch.specs.Wire.{lentOne, lentTwo}
+
+module _ {lent l : Lent} {result buffer₀ : List ℕ} (told : l ≡ lent) where
+  pub declined-end : (why : Refusal) → l ≡ Refused why → Written lent result buffer₀ buffer₀ (refused why)
+  declined-end why e =
+      record {
+        declined = λ y ey. let same : y ≡ why = cc in (ap refused (sym same), refl);
+        done = λ ef. never-both ef (sym told ∙ e);
+      }
+
+  pub done-end : l ≡ Fine → {buffer : List ℕ} → buffer ≡ result → Written lent result buffer₀ buffer (accepted tt)
+  done-end fine e = record { declined = λ y ey. never-both fine (told ∙ ey); done = λ ef. (refl, e) }
+
+-- ---- what Fine says of the lengths and the bits
+pub one-fine : (a : List ℕ) (room : ℕ) {l : Lent} → l ≡ lentOne a room → l ≡ Fine → (length a ≡ 260) × (room ≡ 260)
+one-fine a room told fine =
+    let p = fine-first (exactOf 260 (length a)) _ (sym told ∙ fine) in
+    let q = fine-first (exactOf 260 room) _ (p .1) in
+    (sym (fine-exact 260 (length a) (p .0)), sym (fine-exact 260 room (q .0)))
+
+two-tests : (a b : List ℕ) (room : ℕ) → lentTwo a b room ≡ Fine
+    → (exactOf 260 (length a) ≡ Fine) × (exactOf 260 (length b) ≡ Fine) × (exactOf 260 room ≡ Fine) × (binaryOf a ≡ Fine) × (binaryOf b ≡ Fine)
+two-tests a b room fine =
+    let p = fine-first (exactOf 260 (length a)) _ fine in
+    let q = fine-first (exactOf 260 (length b)) _ (p .1) in
+    let r = fine-first (exactOf 260 room) _ (q .1) in
+    let s = fine-first (binaryOf a) (binaryOf b) (r .1) in
+    (p .0, q .0, r .0, s .0, s .1)
+
+pub two-fine : (a b : List ℕ) (room : ℕ) {l : Lent} → l ≡ lentTwo a b room → l ≡ Fine → (length a ≡ 260) × (length b ≡ 260) × (room ≡ 260)
+two-fine a b room told fine =
+    let t = two-tests a b room (sym told ∙ fine) in
+    (sym (fine-exact 260 (length a) (t .0)), sym (fine-exact 260 (length b) (t .1)), sym (fine-exact 260 room (t .2)))
+
+pub two-bits : (a b : List ℕ) (room : ℕ) → lentTwo a b room ≡ Fine → (allBinary a ≡ true) × (allBinary b ≡ true)
+two-bits a b room fine = let t = two-tests a b room fine in (fine-binary a (t .3), fine-binary b (t .4))
+
+-- ---- and what gives Fine
+exact-fine : (n m : ℕ) → m ≡ n → exactOf n m ≡ Fine
+exact-fine n m e = rw (eq-eqb n m (sym e))
+
+binary-fine : (l : List ℕ) → allBinary l ≡ true → binaryOf l ≡ Fine
+binary-fine l e = ap (λ (t : Bool). cond t Fine (Refused Symbol)) e
+
+pub fine-two : (a b : List ℕ) (room : ℕ) → length a ≡ 260 → length b ≡ 260 → room ≡ 260 → allBinary a ≡ true → allBinary b ≡ true → lentTwo a b room ≡ Fine
+fine-two a b room la lb lr ba bb =
+    ap₂ firstOf (exact-fine 260 (length a) la)
+    (ap₂ firstOf (exact-fine 260 (length b) lb) (ap₂ firstOf (exact-fine 260 room lr) (ap₂ firstOf (binary-fine a ba) (binary-fine b bb))))

@@ -1,0 +1,38 @@
+-- `facch::wire::deinterleave` meets its contract: a refusal, or the word. Assumes nothing.
+use Rattle.facch.proofs.Answering.{declined-end, done-end, two-fine}
+use borrow.Author.Needs.{needs}
+use Rattle.facch.proofs.wire.deinterleave.Statement.{statement}
+use Rattle.facch.proofs.wire.deinterleave.Tie as tie
+
+lent-two-requires : tie.Need-lent-two-requires
+lent-two-requires c κs = search needs
+
+enum-known-ready : tie.Need-enum-known-ready
+enum-known-ready c = search needs
+
+returns : tie.Need-returns
+returns c = declined-end (c .before .before .before .lent-two .ensures) _ (c .before .ready .given .1)
+
+enum-told : tie.Need-enum-told
+enum-told c = search needs
+
+spread-requires : tie.Need-spread-requires
+spread-requires c κs = two-fine (c .before .before .before .before .before .before .before .args .first .now) (c .before .before .before .before .before .before .before .args .second .now) _ (c .before .before .before .lent-two .ensures) (c .before .enum-told .given .1)
+
+same-length : tie.Need-same-length
+same-length c = search needs
+
+returns-2 : tie.Need-returns-2
+returns-2 c = done-end (c .before .before .before .before .before .before .lent-two .ensures) (c .before .before .before .before .enum-told .given .1) (c .before .before .spread .ensures)
+
+pub deinterleave-spec : {M : Type 1} → statement M
+deinterleave-spec =
+    tie.close
+    (tie.spec
+    lent-two-requires
+    enum-known-ready
+    returns
+    enum-told
+    spread-requires
+    same-length
+    returns-2)

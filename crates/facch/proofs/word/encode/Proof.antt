@@ -1,0 +1,51 @@
+-- `facch::word::encode` meets its contract: a refusal, or the coded bits of the word. Assumes nothing.
+use Rattle.facch.proofs.Answering.{declined-end, done-end}
+use Rattle.facch.proofs.WordBits.{asks-word, word-coded}
+use borrow.Author.Needs.{needs}
+use Rattle.facch.proofs.word.encode.Statement.{statement}
+use Rattle.facch.proofs.word.encode.Tie as tie
+
+lent-encode-requires : tie.Need-lent-encode-requires
+lent-encode-requires c κs = search needs
+
+enum-known-ready : tie.Need-enum-known-ready
+enum-known-ready c = search needs
+
+returns : tie.Need-returns
+returns c = declined-end (c .before .before .before .lent-encode .ensures) _ (c .before .ready .given .1)
+
+enum-told : tie.Need-enum-told
+enum-told c = search needs
+
+slice-aggregate-fill-word : tie.Need-slice-aggregate-fill-word
+slice-aggregate-fill-word c = search needs
+
+fill-word-requires : tie.Need-fill-word-requires
+fill-word-requires c κs = search needs
+
+slice-aggregate-encode-word : tie.Need-slice-aggregate-encode-word
+slice-aggregate-encode-word c = search needs
+
+encode-word-requires : tie.Need-encode-word-requires
+encode-word-requires c κs = asks-word (c .before .before .before .before .before .before .before .before .before .args .continuation) (c .before .before .before .before .before .before .before .before .before .args .message) (c .before .before .before .before .before .before .before .before .before .args .dvcc) (c .before .before .before .fill-word .ensures) _ (c .before .before .before .before .before .before .before .lent-encode .ensures) (c .before .before .before .before .before .enum-told .given .1)
+
+same-length : tie.Need-same-length
+same-length c = search needs
+
+returns-2 : tie.Need-returns-2
+returns-2 c = done-end (c .before .before .before .before .before .before .before .before .before .before .lent-encode .ensures) (c .before .before .before .before .before .before .before .before .enum-told .given .1) (word-coded (c .before .before .before .before .before .before .before .before .before .before .before .before .args .continuation) (c .before .before .before .before .before .before .before .before .before .before .before .before .args .message) (c .before .before .before .before .before .before .before .before .before .before .before .before .args .dvcc) (c .before .before .before .before .before .before .fill-word .ensures) (c .before .before .encode-word .ensures))
+
+pub encode-spec : {M : Type 1} → statement M
+encode-spec =
+    tie.close
+    (tie.spec
+    lent-encode-requires
+    enum-known-ready
+    returns
+    enum-told
+    slice-aggregate-fill-word
+    fill-word-requires
+    slice-aggregate-encode-word
+    encode-word-requires
+    same-length
+    returns-2)

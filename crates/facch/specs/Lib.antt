@@ -1,0 +1,4 @@
+-- FACCH words: the slot order, the word and its coded bits, and the calls.
+pub mod Calls
+pub mod Wire
+pub mod Words
