@@ -1,6 +1,7 @@
 -- The laws that every crate cites.
 pub mod Tested
 pub mod Listed
+pub mod Permuted
 pub mod Filled
 pub mod LentPart
 pub mod Ring

@@ -2,12 +2,14 @@
 -- Assumes nothing.
 use mathlib.Core.Path.{_≡_, refl}
 use mathlib.Core.Bool.{Bool}
+use mathlib.Core.List.{List}
 use Prim.Native.Nat.{ℕ, _+_, _-_, _<_, _≤_}
 use native.Mathlib.Omega.{arith}
-use lib.Dec.{T, eqb, ltb, eqb→eq, ltb→lt}
-use lib.ListN.{length}
+use lib.Dec.{T, eqb, eqb→eq}
+use lib.ListN.{length, getD}
 use Rattle.bits.specs.Places.{placeIn}
-use Rattle.bits.proofs.Tested.{both, both-left, both-right, every, below}
+use Rattle.bits.proofs.Permuted.{permutes, stands, found, element-below, place-of-element, place-below, element-of-place}
+use Rattle.bits.proofs.Tested.{every, below}
 use Rattle.dcch.specs.declared.BlockFormat.{BlockFormat}
 use Rattle.dcch.specs.declared.BlockFormat.the-variants.{Forward, ReverseNormal, ReverseAbbreviated}
 use Rattle.dcch.specs.Formats.{encodedBits, rowsOf}
@@ -31,48 +33,40 @@ format-small Forward = (omega arith, omega arith, omega arith)
 format-small ReverseNormal = (omega arith, omega arith, omega arith)
 format-small ReverseAbbreviated = (omega arith, omega arith, omega arith)
 
--- ---- the tests, at a wire, at a cell, and at a wire with one after it
-wireTest : BlockFormat → ℕ → Bool
-wireTest f wire = both (ltb (cellAt f wire) (encodedBits f)) (eqb (wireOf f (cellAt f wire)) wire)
+-- ---- each cell is sent once
+passed : (f : BlockFormat) → T (permutes (wireOrder f) (encodedBits f))
+unfolding permutes stands found placeIn across everySecond wireOrder
+passed Forward = tt
+passed ReverseNormal = tt
+passed ReverseAbbreviated = tt
 
-cellTest : BlockFormat → ℕ → Bool
-cellTest f cell = both (ltb (wireOf f cell) (encodedBits f)) (eqb (cellAt f (wireOf f cell)) cell)
+module _ (f : BlockFormat) where
+  pub cell-below : (wire : ℕ) → wire < encodedBits f → cellAt f wire < encodedBits f
+  unfolding cellAt
+  cell-below = element-below (wireOrder f) (encodedBits f) (order-length f) (passed f)
 
-nextTest : BlockFormat → ℕ → Bool
-nextTest f wire = eqb (nextCell (rowsOf f) (encodedBits f) (cellAt f wire)) (cellAt f (wire + 1))
+  pub wire-of-cell : (wire : ℕ) → wire < encodedBits f → wireOf f (cellAt f wire) ≡ wire
+  unfolding cellAt wireOf
+  wire-of-cell = place-of-element (wireOrder f) (encodedBits f) (order-length f) (passed f)
 
-passed : (f : BlockFormat)
-    → T (every (wireTest f) (encodedBits f)) × T (every (cellTest f) (encodedBits f)) × T (every (nextTest f) (encodedBits f - 1))
-unfolding wireTest cellTest nextTest across everySecond wireOrder cellAt placeIn wireOf nextCell
-passed Forward = (tt, tt, tt)
-passed ReverseNormal = (tt, tt, tt)
-passed ReverseAbbreviated = (tt, tt, tt)
+  pub wire-below : (cell : ℕ) → cell < encodedBits f → wireOf f cell < encodedBits f
+  unfolding wireOf
+  wire-below = place-below (wireOrder f) (encodedBits f) (order-length f) (passed f)
 
--- ---- the laws, at each wire and at each cell
-module _ (f : BlockFormat) (wire : ℕ) (h : wire < encodedBits f) where
-  at-wire : T (wireTest f wire)
-  at-wire = below (wireTest f) (encodedBits f) (passed f .0) wire h
+  pub cell-of-wire : (cell : ℕ) → cell < encodedBits f → cellAt f (wireOf f cell) ≡ cell
+  unfolding cellAt wireOf
+  cell-of-wire = element-of-place (wireOrder f) (encodedBits f) (order-length f) (passed f)
 
-  pub cell-below : cellAt f wire < encodedBits f
-  unfolding wireTest
-  cell-below = ltb→lt _ _ (both-left (ltb (cellAt f wire) (encodedBits f)) _ at-wire)
+-- ---- the rule for the next cell, at each wire with one after it
+unfoldable nextTest : BlockFormat → List ℕ → ℕ → Bool
+nextTest f order wire = eqb (nextCell (rowsOf f) (encodedBits f) (getD order wire 0)) (getD order (wire + 1) 0)
 
-  pub wire-of-cell : wireOf f (cellAt f wire) ≡ wire
-  unfolding wireTest
-  wire-of-cell = eqb→eq _ _ (both-right (ltb (cellAt f wire) (encodedBits f)) _ at-wire)
-
-module _ (f : BlockFormat) (cell : ℕ) (h : cell < encodedBits f) where
-  at-cell : T (cellTest f cell)
-  at-cell = below (cellTest f) (encodedBits f) (passed f .1) cell h
-
-  pub wire-below : wireOf f cell < encodedBits f
-  unfolding cellTest
-  wire-below = ltb→lt _ _ (both-left (ltb (wireOf f cell) (encodedBits f)) _ at-cell)
-
-  pub cell-of-wire : cellAt f (wireOf f cell) ≡ cell
-  unfolding cellTest
-  cell-of-wire = eqb→eq _ _ (both-right (ltb (wireOf f cell) (encodedBits f)) _ at-cell)
+next-passed : (f : BlockFormat) → T (every (nextTest f (wireOrder f)) (encodedBits f - 1))
+unfolding nextTest across everySecond wireOrder nextCell
+next-passed Forward = tt
+next-passed ReverseNormal = tt
+next-passed ReverseAbbreviated = tt
 
 pub next-cell : (f : BlockFormat) (wire : ℕ) → wire + 1 < encodedBits f → nextCell (rowsOf f) (encodedBits f) (cellAt f wire) ≡ cellAt f (wire + 1)
-unfolding nextTest
-next-cell f wire h = eqb→eq _ _ (below (nextTest f) (encodedBits f - 1) (passed f .2) wire (omega arith))
+unfolding nextTest cellAt
+next-cell f wire h = eqb→eq _ _ (below (nextTest f (wireOrder f)) (encodedBits f - 1) (next-passed f) wire (omega arith))

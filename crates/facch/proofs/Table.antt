@@ -1,43 +1,40 @@
--- The slot order is a permutation of the word's places, with `wireOf` its inverse: tests that antt computes over the table. Assumes nothing.
-use mathlib.Core.Path.{_≡_, refl}
-use mathlib.Core.Bool.{Bool}
-use Prim.Native.Nat.{ℕ, _+_, _-_, _<_, _≤_}
-use native.Mathlib.Omega.{arith}
-use lib.Dec.{T, eqb, ltb, eqb→eq, ltb→lt}
+-- The slot order is a permutation of the word's places, with `wireOf` its inverse: a test that antt computes over the table. Assumes nothing.
+use mathlib.Core.Path.{_≡_, refl, sym, ap, subst, _∙_}
+use mathlib.Core.List.{List}
+use Prim.Native.Nat.{ℕ, _<_}
+use lib.Dec.{T}
+use lib.ListN.{length, getD}
 use Rattle.bits.specs.Places.{listed, placeIn}
-use Rattle.bits.proofs.Tested.{both, both-left, both-right, every, below}
+use Rattle.bits.proofs.Listed.{length-listed, getD-listed}
+use Rattle.bits.proofs.Permuted.{permutes, stands, found, element-below, place-of-element, element-of-place}
+use Rattle.bits.proofs.Permuted as permuted
 use Rattle.facch.specs.Wire.{table, placeOf, placeAt, wireOf}
 
-wireTest : ℕ → Bool
-wireTest wire = both (ltb (placeAt wire) 260) (eqb (wireOf (placeAt wire)) wire)
+-- the places in the order of the slot
+abbrev order : List ℕ
+order = listed 260 placeAt
 
-placeTest : ℕ → Bool
-placeTest place = both (ltb (wireOf place) 260) (eqb (placeAt (wireOf place)) place)
+passed : T (permutes order 260)
+unfolding permutes stands found placeIn listed table placeOf
+passed = tt
 
-passed : T (every wireTest 260) × T (every placeTest 260)
-unfolding wireTest placeTest table placeOf wireOf listed placeIn
-passed = (tt, tt)
+size : length order ≡ 260
+size = length-listed 260 placeAt
 
-module _ (wire : ℕ) (h : wire < 260) where
-  at-wire : T (wireTest wire)
-  at-wire = below wireTest 260 (passed .0) wire h
+at : (wire : ℕ) → wire < 260 → getD order wire 0 ≡ placeAt wire
+at wire h = getD-listed 260 placeAt 0 wire h
 
-  pub place-below : placeAt wire < 260
-  unfolding wireTest
-  place-below = ltb→lt _ _ (both-left (ltb (placeAt wire) 260) _ at-wire)
+pub place-below : (wire : ℕ) → wire < 260 → placeAt wire < 260
+place-below wire h = subst (λ (x : ℕ). x < 260) (at wire h) (element-below order 260 size passed wire h)
 
-  pub wire-of-place : wireOf (placeAt wire) ≡ wire
-  unfolding wireTest
-  wire-of-place = eqb→eq _ _ (both-right (ltb (placeAt wire) 260) _ at-wire)
+pub wire-of-place : (wire : ℕ) → wire < 260 → wireOf (placeAt wire) ≡ wire
+unfolding wireOf
+wire-of-place wire h = ap (placeIn order) (sym (at wire h)) ∙ place-of-element order 260 size passed wire h
 
-module _ (place : ℕ) (h : place < 260) where
-  at-place : T (placeTest place)
-  at-place = below placeTest 260 (passed .1) place h
+pub wire-below : (place : ℕ) → place < 260 → wireOf place < 260
+unfolding wireOf
+wire-below = permuted.place-below order 260 size passed
 
-  pub wire-below : wireOf place < 260
-  unfolding placeTest
-  wire-below = ltb→lt _ _ (both-left (ltb (wireOf place) 260) _ at-place)
-
-  pub place-of-wire : placeAt (wireOf place) ≡ place
-  unfolding placeTest
-  place-of-wire = eqb→eq _ _ (both-right (ltb (wireOf place) 260) _ at-place)
+pub place-of-wire : (place : ℕ) → place < 260 → placeAt (wireOf place) ≡ place
+unfolding wireOf
+place-of-wire place h = sym (at (placeIn order place) (permuted.place-below order 260 size passed place h)) ∙ element-of-place order 260 size passed place h
