@@ -1,4 +1,4 @@
--- An answer of `dcch`, made flat. Assumes nothing.
+-- An answer of a codec, made flat. Assumes nothing.
 use mathlib.Core.Path.{_≡_, sym, ap, subst, _∙_}
 use Prim.Native.Nat.{ℕ}
 use Rattle.bits.specs.Refusals.{numberOf, expectedOf, actualOf}
@@ -8,11 +8,16 @@ use Rattle.dcch.specs.declared.Encoded.{Encoded}
 use Rattle.dcch.specs.declared.Decoded.{Decoded}
 use Rattle.dcch.specs.Blocks.{encodeAnswer, decodeAnswer}
 use Rattle.bts136.specs.declared.blocks.Block.{Block}
+use Rattle.bts136.specs.Words.{notWritten}
 use Rattle.bts136.specs.Blocks.{noBlock, flatDone, flatCorrected, FlatEncoded, FlatDecoded}
 
 pub refused-block : (why : Refusal) (n e a : ℕ) → n ≡ numberOf why → e ≡ expectedOf why → a ≡ actualOf why
     → record { refusal = n; expected = e; actual = a; corrected = 0 } ≡ noBlock why
 refused-block why n e a en ee ea = cc
+
+pub refused-written : (why : Refusal) (n e a : ℕ) → n ≡ numberOf why → e ≡ expectedOf why → a ≡ actualOf why
+    → record { refusal = n; expected = e; actual = a } ≡ notWritten why
+refused-written why n e a en ee ea = cc
 
 -- the mode that a flag names
 pub encoded-flat : (Call : CrcMode → Encoded → Type 0) {r : Block} {given named : CrcMode} (answer : Encoded) → given ≡ named → Call given answer

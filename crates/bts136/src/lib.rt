@@ -1,5 +1,6 @@
 // The static library for Rust and C: flat functions over the crates below. Each answers a number of document 01, or 0 with its result.
 mod blocks;
+mod words;
 
 use bits::Lent;
 use bits::Refusal;

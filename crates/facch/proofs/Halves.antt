@@ -13,10 +13,11 @@ use Rattle.bits.specs.Places.{listed, placeIn}
 use Rattle.bits.proofs.Binary.{binary-at}
 use Rattle.bits.proofs.Listed.{is-listed}
 use Rattle.bits.specs.declared.Lent.the-variants.{Fine}
-use Rattle.facch.specs.declared.Placed.{Placed}
+use Rattle.facch.specs.declared.Wrote.{Wrote}
 use Rattle.facch.specs.declared.WordHalf.{WordHalf}
 use Rattle.facch.specs.declared.WordHalf.the-variants.{Start, End}
-use Rattle.facch.specs.Wire.{table, placeOf, placeAt, wireOf, byRow, interleaved, deinterleaved, observed, lentTwo, placedAnswer, Interleaving, Deinterleaving}
+use Rattle.facch.specs.Wire.{table, placeOf, placeAt, wireOf, byRow, interleaved, deinterleaved, observed, lentTwo, Interleaving, Deinterleaving}
+use Rattle.facch.specs.Calls.{wroteAnswer}
 use Rattle.facch.proofs.Table.{wire-below, place-of-wire}
 use Rattle.facch.proofs.Interleaved.{interleaved-length, interleaved-at, deinterleaved-at, binary-interleaved}
 use Rattle.facch.proofs.Answering.{two-fine, two-bits, fine-two}
@@ -47,10 +48,10 @@ module _ {A : Type 0} (d : A) where
           ap (λ (b : Bool). getD (cond b (interleaved d word next) (interleaved d previous word)) (wireOf place) d) e ∙ odd-row word place h previous e
 
 -- the same of the calls
-pub calls-round-trip : (previous word next : List ℕ) (r r′ r″ : Placed) {slot₀ slot slot₀′ slot′ coded₀ coded : List ℕ}
+pub calls-round-trip : (previous word next : List ℕ) (r r′ r″ : Wrote) {slot₀ slot slot₀′ slot′ coded₀ coded : List ℕ}
     → lentTwo previous word (length slot₀) ≡ Fine → lentTwo word next (length slot₀′) ≡ Fine → length coded₀ ≡ 260
     → Interleaving previous word slot₀ slot r → Interleaving word next slot₀′ slot′ r′ → Deinterleaving slot slot′ coded₀ coded r″
-    → (placedAnswer r″ ≡ accepted tt) × (coded ≡ word)
+    → (wroteAnswer r″ ≡ accepted tt) × (coded ≡ word)
 calls-round-trip previous word next r r′ r″ {slot₀} {slot} {slot₀′} {slot′} {coded₀} {coded} f f′ room i i′ e =
     let a = two-bits previous word (length slot₀) f in
     let b = two-bits word next (length slot₀′) f′ in

@@ -6,8 +6,15 @@ use Rattle.bits.specs.Refusals.{Answer, accepted, refused}
 use Rattle.bits.specs.declared.Lent.{Lent}
 use Rattle.bits.specs.declared.Lent.the-variants.{Fine, Refused}
 use Rattle.bits.specs.declared.Refusal.{Refusal}
+use Rattle.facch.specs.declared.Wrote.{Wrote}
+use Rattle.facch.specs.declared.Wrote.the-variants as wrote
+
+-- what the answer is to document 01
+abbrev pub wroteAnswer : Wrote → Answer Unit
+wroteAnswer wrote.Done = accepted tt
+wroteAnswer (wrote.Refused why) = refused why
 
 -- refused with nothing written, or accepted with the result in the buffer
-pub record Written (lent : Lent) (result buffer₀ buffer : List ℕ) (answer : Answer Unit) : Type 0 where
-  pub declined : (why : Refusal) → lent ≡ Refused why → (answer ≡ refused why) × (buffer ≡ buffer₀)
-  pub done : lent ≡ Fine → (answer ≡ accepted tt) × (buffer ≡ result)
+pub record Written (lent : Lent) (result buffer₀ buffer : List ℕ) (r : Wrote) : Type 0 where
+  pub declined : (why : Refusal) → lent ≡ Refused why → (wroteAnswer r ≡ refused why) × (buffer ≡ buffer₀)
+  pub done : lent ≡ Fine → (wroteAnswer r ≡ accepted tt) × (buffer ≡ result)

@@ -5,12 +5,11 @@ use Prim.Native.Nat.{ℕ, _/_, _%_}
 use lib.Dec.{eqb}
 use lib.ListN.{length, getD, replicate}
 use Rattle.bits.specs.Places.{listed, placeIn}
-use Rattle.bits.specs.Refusals.{Answer, accepted, refused, firstOf, exactOf, binaryOf}
+use Rattle.bits.specs.Refusals.{firstOf, exactOf, binaryOf}
 use Rattle.bits.specs.declared.Lent.{Lent}
 use Rattle.facch.specs.declared.WordHalf.{WordHalf}
 use Rattle.facch.specs.declared.WordHalf.the-variants.{Start, End}
-use Rattle.facch.specs.declared.Placed.{Placed}
-use Rattle.facch.specs.declared.Placed.the-variants as placed
+use Rattle.facch.specs.declared.Wrote.{Wrote}
 use Rattle.facch.specs.Calls.{Written}
 
 -- IS-54-B Table 2.7.3.1.1.2-1, row by row: the place in the word of the coded bit that each column carries
@@ -73,11 +72,6 @@ observed Start slot = deinterleaved 0 slot (replicate 260 2)
 observed End slot = deinterleaved 0 (replicate 260 2) slot
 
 -- ---- the calls
--- what each answer is to document 01
-abbrev pub placedAnswer : Placed → Answer Unit
-placedAnswer placed.Done = accepted tt
-placedAnswer (placed.Refused why) = refused why
-
 -- two slices and room for the third: each length, then the symbols
 abbrev pub lentTwo : List ℕ → List ℕ → ℕ → Lent
 lentTwo a b room =
@@ -87,11 +81,11 @@ lentTwo a b room =
 abbrev pub lentOne : List ℕ → ℕ → Lent
 lentOne a room = firstOf (exactOf 260 (length a)) (firstOf (exactOf 260 room) (binaryOf a))
 
-abbrev pub Interleaving : List ℕ → List ℕ → List ℕ → List ℕ → Placed → Type 0
-Interleaving previous current slot₀ slot r = Written (lentTwo previous current (length slot₀)) (interleaved 0 previous current) slot₀ slot (placedAnswer r)
+abbrev pub Interleaving : List ℕ → List ℕ → List ℕ → List ℕ → Wrote → Type 0
+Interleaving previous current slot₀ slot r = Written (lentTwo previous current (length slot₀)) (interleaved 0 previous current) slot₀ slot r
 
-abbrev pub Deinterleaving : List ℕ → List ℕ → List ℕ → List ℕ → Placed → Type 0
-Deinterleaving first second coded₀ coded r = Written (lentTwo first second (length coded₀)) (deinterleaved 0 first second) coded₀ coded (placedAnswer r)
+abbrev pub Deinterleaving : List ℕ → List ℕ → List ℕ → List ℕ → Wrote → Type 0
+Deinterleaving first second coded₀ coded r = Written (lentTwo first second (length coded₀)) (deinterleaved 0 first second) coded₀ coded r
 
-abbrev pub Observing : List ℕ → WordHalf → List ℕ → List ℕ → Placed → Type 0
-Observing slot half coded₀ coded r = Written (lentOne slot (length coded₀)) (observed half slot) coded₀ coded (placedAnswer r)
+abbrev pub Observing : List ℕ → WordHalf → List ℕ → List ℕ → Wrote → Type 0
+Observing slot half coded₀ coded r = Written (lentOne slot (length coded₀)) (observed half slot) coded₀ coded r

@@ -6,15 +6,14 @@ use lib.Dec.{ltb}
 use lib.ListN.{length, take, drop}
 use Rattle.bits.specs.Bits.{bytes}
 use Rattle.bits.specs.Numbers.{unpacked}
-use Rattle.bits.specs.Refusals.{Answer, accepted, refused, firstOf, exactOf}
+use Rattle.bits.specs.Refusals.{firstOf, exactOf}
 use Rattle.bits.specs.declared.Lent.{Lent}
 use Rattle.bits.specs.declared.Lent.the-variants.{Fine, Refused}
 use Rattle.bits.specs.declared.Refusal.the-variants.{Symbol}
 use Rattle.coding.specs.Codes.{coded, facch}
 use Rattle.coding.specs.Checksums.{checksumOf}
 use Rattle.coding.specs.declared.checksum.CrcMode.the-variants.{Addressed}
-use Rattle.facch.specs.declared.Encoded.{Encoded}
-use Rattle.facch.specs.declared.Encoded.the-variants as encoded
+use Rattle.facch.specs.declared.Wrote.{Wrote}
 use Rattle.facch.specs.Calls.{Written}
 
 -- 2.7.3.1.1: the continuation flag and the message, the highest bit first
@@ -31,11 +30,6 @@ unfoldable pub tailBiting : List Bool → List Bool
 tailBiting w = coded facch (reverse (take 5 w)) (drop 5 w ++ take 5 w)
 
 -- ---- encode
--- what each answer is to document 01
-abbrev pub encodeAnswer : Encoded → Answer Unit
-encodeAnswer encoded.Done = accepted tt
-encodeAnswer (encoded.Refused why) = refused why
-
 -- Symbol where a message has more than 48 bits
 abbrev pub messageOf : ℕ → Lent
 messageOf message = cond (ltb message (2 ^ 48)) Fine (Refused Symbol)
@@ -44,6 +38,6 @@ messageOf message = cond (ltb message (2 ^ 48)) Fine (Refused Symbol)
 abbrev pub lentEncode : ℕ → ℕ → Lent
 lentEncode message room = firstOf (exactOf 260 room) (messageOf message)
 
-abbrev pub Encoding : Bool → ℕ → ℕ → List ℕ → List ℕ → Encoded → Type 0
+abbrev pub Encoding : Bool → ℕ → ℕ → List ℕ → List ℕ → Wrote → Type 0
 Encoding continuation message dvcc coded₀ coded r =
-    Written (lentEncode message (length coded₀)) (bytes (tailBiting (wordOf continuation message dvcc))) coded₀ coded (encodeAnswer r)
+    Written (lentEncode message (length coded₀)) (bytes (tailBiting (wordOf continuation message dvcc))) coded₀ coded r

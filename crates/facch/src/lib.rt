@@ -14,14 +14,8 @@ pub enum WordHalf {
     End,
 }
 
-// What encoding a word answers.
-pub enum Encoded {
-    Done,
-    Refused(Refusal),
-}
-
-// What interleaving answers.
-pub enum Placed {
+// What a call that writes bits answers.
+pub enum Wrote {
     Done,
     Refused(Refusal),
 }

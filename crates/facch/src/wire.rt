@@ -1,7 +1,7 @@
 // The slot order (IS-54-B Table 2.7.3.1.1.2-1): a slot carries half of the word before and half of its own.
 // Ported from 136-bts, facch.rs, and changed (see NOTICE).
-use crate::Placed;
 use crate::WordHalf;
+use crate::Wrote;
 use bits::Lent;
 use bits::exact;
 use bits::first;
@@ -124,37 +124,37 @@ fn lent_two(a: &[u8], b: &[u8], room: usize) -> Lent
 }
 
 // Writes the slot that finishes the previous word and starts the current one.
-pub fn interleave(previous: &[u8], current: &[u8], slot: &mut [u8]) -> Placed
+pub fn interleave(previous: &[u8], current: &[u8], slot: &mut [u8]) -> Wrote
     ensures { λ r. ⌜ Interleaving (now (previous .entry)) (now (current .entry)) (now (slot .entry)) (now (slot .exit)) r ⌝ }
 {
     let ready = lent_two(previous, current, slot.len());
     if let Lent::Refused(why) = ready {
-        return Placed::Refused(why);
+        return Wrote::Refused(why);
     }
     gather(previous, current, slot);
-    Placed::Done
+    Wrote::Done
 }
 
 // Writes the half of a word that a slot carries, and 2 at the places of the other half.
-pub fn observe_half(slot: &[u8], half: WordHalf, coded: &mut [u8]) -> Placed
+pub fn observe_half(slot: &[u8], half: WordHalf, coded: &mut [u8]) -> Wrote
     ensures { λ r. ⌜ Observing (now (slot .entry)) half (now (coded .entry)) (now (coded .exit)) r ⌝ }
 {
     let ready = lent_one(slot, coded.len());
     if let Lent::Refused(why) = ready {
-        return Placed::Refused(why);
+        return Wrote::Refused(why);
     }
     spread_half(slot, half, coded);
-    Placed::Done
+    Wrote::Done
 }
 
 // Writes the word that starts in the first slot and is finished in the second.
-pub fn deinterleave(first: &[u8], second: &[u8], coded: &mut [u8]) -> Placed
+pub fn deinterleave(first: &[u8], second: &[u8], coded: &mut [u8]) -> Wrote
     ensures { λ r. ⌜ Deinterleaving (now (first .entry)) (now (second .entry)) (now (coded .entry)) (now (coded .exit)) r ⌝ }
 {
     let ready = lent_two(first, second, coded.len());
     if let Lent::Refused(why) = ready {
-        return Placed::Refused(why);
+        return Wrote::Refused(why);
     }
     spread(first, second, coded);
-    Placed::Done
+    Wrote::Done
 }

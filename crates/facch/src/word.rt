@@ -1,6 +1,6 @@
 // Encoding of a word (IS-54-B 2.7.3.1.1).
 // Ported from 136-bts, facch.rs, and changed (see NOTICE).
-use crate::Encoded;
+use crate::Wrote;
 use bits::Lent;
 use bits::Refusal;
 use bits::exact;
@@ -68,15 +68,15 @@ fn encode_word(word: &[u8], coded: &mut [u8])
 }
 
 // Writes the coded bits of a message.
-pub fn encode(continuation: bool, message: u64, dvcc: u8, coded: &mut [u8]) -> Encoded
+pub fn encode(continuation: bool, message: u64, dvcc: u8, coded: &mut [u8]) -> Wrote
     ensures { λ r. ⌜ Encoding continuation message dvcc (now (coded .entry)) (now (coded .exit)) r ⌝ }
 {
     let ready = lent_encode(message, coded.len());
     if let Lent::Refused(why) = ready {
-        return Encoded::Refused(why);
+        return Wrote::Refused(why);
     }
     let mut word = [0u8; 65];
     fill_word(continuation, message, dvcc, &mut word);
     encode_word(&word, coded);
-    Encoded::Done
+    Wrote::Done
 }
