@@ -8,6 +8,7 @@ pub mod lent;
 pub mod osmo;
 pub mod phy;
 pub mod port;
+pub mod port_facch;
 pub mod port_soft;
 pub mod prng;
 pub mod reference;

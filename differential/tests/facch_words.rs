@@ -1,0 +1,179 @@
+//! FACCH words coded, and put into slots and taken out, by the port and by the Rust.
+use differential::blocks::bytes;
+use differential::lent::Lent;
+use differential::phy::facch::{self, CODED_BITS, MESSAGE_BITS, WordHalf};
+use differential::port_facch::observe;
+use differential::port_facch::{DONE, SYMBOL, Written, deinterleave, encode, interleave, length};
+use differential::prng::Prng;
+use differential::tally::Tally;
+
+const MESSAGES: u64 = 1 << MESSAGE_BITS;
+
+/// The message's bits, the first highest.
+fn bits(message: u64) -> [bool; MESSAGE_BITS] {
+    std::array::from_fn(|place| message >> (MESSAGE_BITS - 1 - place) & 1 != 0)
+}
+
+/// Makes a call that must fill the buffer with these bytes.
+#[track_caller]
+fn writes(wanted: &[u8], call: impl FnOnce(&mut [u8]) -> Written) {
+    let mut lent = Lent::new(wanted.len());
+    assert_eq!(call(lent.lend()), DONE);
+    assert_eq!(lent.written(), wanted);
+    assert!(lent.margins_whole(), "written beside");
+}
+
+/// Makes a call that must be refused and leave the buffer alone.
+#[track_caller]
+fn refuses(room: usize, wanted: Written, call: impl FnOnce(&mut [u8]) -> Written) {
+    let mut lent = Lent::new(room);
+    assert_eq!(call(lent.lend()), wanted);
+    assert!(lent.untouched(), "refused but written");
+}
+
+fn compare(continuation: bool, message: u64, dvcc: u8) {
+    let coded = facch::encode(continuation, &bits(message), dvcc);
+    writes(&bytes(&coded), |lent| {
+        encode(continuation, message, dvcc, lent)
+    });
+}
+
+#[test]
+fn encoded() {
+    let mut p = Prng(0xfa);
+    let mut tally = Tally::new("FACCH encode");
+    let mut calls = 0;
+    for dvcc in 0..=u8::MAX {
+        for continuation in [false, true] {
+            for _ in 0..40 {
+                compare(continuation, p.draw() % MESSAGES, dvcc);
+            }
+            for message in [0, 1, MESSAGES / 2, MESSAGES - 1] {
+                compare(continuation, message, dvcc);
+            }
+            calls += 44;
+        }
+    }
+    tally.part("all DVCC, with and without continuation", calls);
+    for place in 0..MESSAGE_BITS {
+        compare(false, 1 << place, p.byte());
+    }
+    tally.part("a single one", MESSAGE_BITS as u64);
+    tally.end();
+}
+
+#[test]
+fn encode_refused() {
+    let mut p = Prng(0xfb);
+    let mut tally = Tally::new("FACCH encode, refusals");
+    let mut calls = 0;
+    for room in (0..=300).filter(|room| *room != CODED_BITS) {
+        for message in [p.draw() % MESSAGES, MESSAGES, u64::MAX] {
+            refuses(room, length(CODED_BITS, room), |lent| {
+                encode(p.bit(), message, p.byte(), lent)
+            });
+            calls += 1;
+        }
+    }
+    tally.part("lengths 0 to 300", calls);
+    let above = (0..1000).map(|_| p.draw() | MESSAGES);
+    let large: Vec<u64> = [MESSAGES, MESSAGES + 1, u64::MAX]
+        .into_iter()
+        .chain(above)
+        .collect();
+    for message in &large {
+        refuses(CODED_BITS, SYMBOL, |lent| {
+            encode(p.bit(), *message, p.byte(), lent)
+        });
+    }
+    tally.part("messages of more bits", large.len() as u64);
+    tally.end();
+}
+
+fn word(p: &mut Prng) -> [bool; CODED_BITS] {
+    std::array::from_fn(|_| p.bit())
+}
+
+fn single(place: usize) -> [bool; CODED_BITS] {
+    std::array::from_fn(|at| at == place)
+}
+
+/// Every call on slots, on two words or slots.
+fn compare_slots(a: &[bool; CODED_BITS], b: &[bool; CODED_BITS]) {
+    let (x, y) = (bytes(a), bytes(b));
+    writes(&bytes(&facch::interleave(a, b)), |lent| {
+        interleave(&x, &y, lent)
+    });
+    writes(&bytes(&facch::deinterleave(a, b)), |lent| {
+        deinterleave(&x, &y, lent)
+    });
+    for (end, half) in [(false, WordHalf::Start), (true, WordHalf::End)] {
+        let observed = facch::observe_half(a, half).map(|bit| bit.map_or(2, u8::from));
+        writes(&observed, |lent| observe(end, &x, lent));
+    }
+}
+
+#[test]
+fn slots() {
+    let mut p = Prng(0xfc);
+    let mut tally = Tally::new("FACCH slots");
+    for _ in 0..5000 {
+        compare_slots(&word(&mut p), &word(&mut p));
+    }
+    tally.part("random words", 4 * 5000);
+    for place in 0..CODED_BITS {
+        compare_slots(&single(place), &[false; CODED_BITS]);
+        compare_slots(&[true; CODED_BITS], &single(place));
+    }
+    tally.part("a single one", 8 * CODED_BITS as u64);
+    tally.end();
+}
+
+/// The first slice that has not the right length, in the order of the arguments.
+fn first_wrong(lengths: &[usize]) -> Option<Written> {
+    let wrong = lengths.iter().find(|len| **len != CODED_BITS);
+    wrong.map(|len| length(CODED_BITS, *len))
+}
+
+#[test]
+fn slots_refused() {
+    let mut p = Prng(0xfd);
+    let mut tally = Tally::new("FACCH slots, refusals");
+    let lengths = [0, 1, 130, 259, 260, 261, 520];
+    let mut calls = 0;
+    for a in lengths {
+        for b in lengths {
+            for room in lengths {
+                // A byte that is no bit at the end does not come before a length.
+                let x: Vec<u8> = (0..a).map(|at| if at + 1 == a { 2 } else { 0 }).collect();
+                let y = vec![1; b];
+                if let Some(wanted) = first_wrong(&[a, b, room]) {
+                    refuses(room, wanted, |lent| interleave(&x, &y, lent));
+                    refuses(room, wanted, |lent| deinterleave(&x, &y, lent));
+                    calls += 2;
+                }
+                if let Some(wanted) = first_wrong(&[a, room]) {
+                    refuses(room, wanted, |lent| observe(p.bit(), &x, lent));
+                    calls += 1;
+                }
+            }
+        }
+    }
+    tally.part("lengths", calls);
+    let mut calls = 0;
+    for place in 0..CODED_BITS {
+        for wrong in [2, 3, 128, 255] {
+            let (mut x, y) = (bytes(&word(&mut p)), bytes(&word(&mut p)));
+            x[place] = wrong;
+            refuses(CODED_BITS, SYMBOL, |lent| interleave(&x, &y, lent));
+            refuses(CODED_BITS, SYMBOL, |lent| interleave(&y, &x, lent));
+            refuses(CODED_BITS, SYMBOL, |lent| deinterleave(&x, &y, lent));
+            refuses(CODED_BITS, SYMBOL, |lent| deinterleave(&y, &x, lent));
+            refuses(CODED_BITS, SYMBOL, |lent| observe(false, &x, lent));
+            refuses(CODED_BITS, SYMBOL, |lent| observe(true, &x, lent));
+            calls += 6;
+        }
+    }
+    tally.part("a byte that is no bit, at each place", calls);
+    tally.end();
+}
