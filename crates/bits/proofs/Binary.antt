@@ -59,7 +59,7 @@ bits-append [] w = refl
 bits-append (b ∷ u) w = ap (λ (l : List Bool). bit b ∷ l) (bits-append u w)
 
 -- ---- allBinary
-cond-true : (a b : Bool) → cond a b false ≡ true → (a ≡ true) × (b ≡ true)
+pub cond-true : (a b : Bool) → cond a b false ≡ true → (a ≡ true) × (b ≡ true)
 cond-true true b e = (refl, e)
 cond-true false b e = absurd (false≢true e)
 

@@ -23,6 +23,13 @@ module _ {A B : Type 0} (f : A → B → ℕ) where
   tally-append (x ∷ xs) zs [] = sym (ap (λ (n : ℕ). 0 + n) (tally-nil zs))
   tally-append (x ∷ xs) zs (y ∷ ys) = ap (λ (n : ℕ). f x y + n) (tally-append xs zs ys) ∙ sym (add-assoc (f x y) (tally f xs ys) (tally f zs (drop (length xs) ys)))
 
+-- two more places of a list
+pub drop-two : {A : Type 0} (l : List A) (k : ℕ) (d : A) → k + 1 < length l → drop k l ≡ getD l k d ∷ getD l (k + 1) d ∷ drop (k + 2) l
+drop-two {A} l k d h =
+    let e : suc k ≡ k + 1 = omega arith in
+    let e2 : suc (suc k) ≡ k + 2 = omega arith in
+    drop-cons l k d (omega arith) ∙ ap (λ (r : List A). getD l k d ∷ r) (drop-cons l (suc k) d (omega arith) ∙ ap₂ (λ (i j : ℕ). getD l i d ∷ drop j l) e e2)
+
 -- ---- the loop of `count_disagreements`: n places differ in the first k
 pub record Counting (a b : List ℕ) (n k : ℕ) : Type 0 where
   pub low : k ≤ length a

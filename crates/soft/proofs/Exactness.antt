@@ -9,10 +9,10 @@ use native.Mathlib.Nat.{le-refl, add-zero, mul-lt-mul-of-pos-right}
 use native.Mathlib.Omega.{arith}
 use lib.Dec.{lit<}
 use lib.ListN.{length, getD, drop}
-use lib.Seq.{drop-cons}
 use lib.Ieee.{Float, nan, inf, fin, binary64, round, size, units, odd, ofInt}
 use lib.Ieee.Exact.{HasValue}
 use Rattle.bits.specs.Bits.{_⊕_, tally}
+use Rattle.bits.proofs.Tally.{drop-two}
 use Rattle.coding.specs.Codes.{outputs, dcch}
 use Rattle.coding.specs.Registers.{memoryHigh}
 use Rattle.trellis.specs.Search.{First}
@@ -75,12 +75,8 @@ module _ (values : List Float) (n : ℕ) (twice : length values ≡ n * 2) (h5 :
   second-whole k h = whole (k * 2 + 1) (omega arith)
 
   -- what was received of a step
-  received : (k : ℕ) → k < n → drop (k * 2) values ≡ x k ∷ y k ∷ drop (suc (suc (k * 2))) values
-  received k h =
-      let e : suc (k * 2) ≡ k * 2 + 1 = omega arith in
-      drop-cons values (k * 2) nan (omega arith)
-      ∙ ap (λ (r : List Float). x k ∷ r)
-      (drop-cons values (suc (k * 2)) nan (omega arith) ∙ ap (λ (i : ℕ). getD values i nan ∷ drop (suc (suc (k * 2))) values) e)
+  received : (k : ℕ) → k < n → drop (k * 2) values ≡ x k ∷ y k ∷ drop (k * 2 + 2) values
+  received k h = drop-two values (k * 2) nan (omega arith)
 
   abbrev output : ℕ → Bool → ℕ → Bool
   output s b i = getD (outputs dcch (b ∷ memoryHigh s)) i false

@@ -1,6 +1,6 @@
 -- Bytes 0, 1 and 2, and what they cost against a coded bit. Assumes nothing.
 use mathlib.Core.Path.{_≡_, refl, _∙_}
-use mathlib.Core.Bool.{Bool, true, false, cond, false≢true}
+use mathlib.Core.Bool.{Bool, true, false, cond}
 use mathlib.Core.List.{List, [], _∷_}
 use Prim.Native.Nat.{ℕ, zero, suc, _<_, _≤_}
 use native.Mathlib.Omega.{arith}
@@ -9,14 +9,10 @@ use lib.Dec.{eqb, ltb}
 use lib.ListN.{length, getD}
 use borrow.Author.Tests.{ltb-true, lt-ltb, eq-eqb, ne-eqb}
 use Rattle.bits.specs.Bits.{bit, differ}
-use Rattle.bits.proofs.Binary.{differ-le}
+use Rattle.bits.proofs.Binary.{cond-true, differ-le}
 use Rattle.tailbiting.specs.TailBiting.{allErasable, erasedDiffer}
 
 -- ---- allErasable, by index
-cond-true : (a b : Bool) → cond a b false ≡ true → (a ≡ true) × (b ≡ true)
-cond-true true b e = (refl, e)
-cond-true false b e = absurd (false≢true e)
-
 pub erasable-at : (l : List ℕ) → allErasable l ≡ true → (k : ℕ) → k < length l → getD l k 0 < 3
 unfolding allErasable
 erasable-at [] e k h = absurd (not-suc-le-zero h)

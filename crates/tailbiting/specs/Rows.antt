@@ -1,25 +1,10 @@
--- The rows of branch metrics of the engine, by place: the state has its newest input lowest.
+-- The rows of branch metrics, by place (trellis/specs/Places.antt).
 use mathlib.Core.Path.{_≡_}
-use mathlib.Core.Bool.{Bool}
 use mathlib.Core.List.{List, []}
-use Prim.Native.Nat.{ℕ, _+_, _*_, _/_, _%_, _<_}
-use lib.Bits.{bitAnd}
-use lib.Count.{ones}
+use Prim.Native.Nat.{ℕ, _+_, _*_, _<_}
 use lib.ListN.{getD}
-use Rattle.bits.specs.Bits.{bit, byte}
+use Rattle.trellis.specs.Places.{outputAt}
 use Rattle.tailbiting.specs.TailBiting.{erasedDiffer}
-
--- the register of a place: the state with the input below it
-abbrev pub registerAt : ℕ → ℕ
-registerAt slot = (slot % 16 + slot / 32 * 16) * 2 + slot / 16 % 2
-
--- an output bit of a place
-unfoldable pub outputAt : ℕ → ℕ → Bool
-outputAt taps slot = bit (ones (bitAnd (registerAt slot) taps))
-
--- the first k places of a list hold the output bits of a generator
-abbrev pub OutputsTo : ℕ → List ℕ → ℕ → Type 0
-OutputsTo taps l k = (slot : ℕ) → slot < k → getD l slot 0 ≡ byte (outputAt taps slot)
 
 -- the branch metric of a place against four received bytes
 abbrev pub costAt : ℕ → ℕ → ℕ → ℕ → ℕ → ℕ

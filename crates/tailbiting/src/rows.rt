@@ -1,13 +1,14 @@
 // Ported from 136-bts, facch.rs, and changed (see NOTICE).
 // The branch metrics of the FACCH code against received bits, some of them unobserved.
 use bits::differs;
-use coding::register::parity;
+use trellis::places::outputs;
 ghost use mathlib.Core.Bool.{true};
 ghost use mathlib.Core.Path.{_≡_};
 ghost use Prim.Native.Nat.{_*_, _<_, _≤_};
 ghost use lib.ListN.{length};
 ghost use Rattle.bits.specs.Bits.{bit};
-ghost use Rattle.tailbiting.specs.Rows.{CostsTo, NumbersTo, OutputsTo, RowsTo, registerAt};
+ghost use Rattle.trellis.specs.Places.{OutputsTo};
+ghost use Rattle.tailbiting.specs.Rows.{CostsTo, NumbersTo, RowsTo};
 ghost use Rattle.tailbiting.specs.TailBiting.{allErasable, erasedDiffer};
 
 // The generators of IS-54-B 2.7.3.1.1.4 as the engine numbers its states, the newest input lowest.
@@ -18,25 +19,6 @@ const G1: u8 = 0b100111;
 const G2: u8 = 0b101111;
 
 const G3: u8 = 0b110101;
-
-// The register of a place in a row: the places go by the state's low four bits, then the input, then the state's high bit.
-fn register_at(slot: u8) -> u8
-    requires { ⌜ slot < 64 ⌝ }
-    ensures { λ r. ⌜ r ≡ registerAt slot ⌝ }
-{
-    (slot % 16 + slot / 32 * 16) * 2 + slot / 16 % 2
-}
-
-// The output bits of one generator, by place.
-fn outputs(taps: u8) -> [u8; 64]
-    ensures { λ r. ⌜ OutputsTo taps r 64 ⌝ }
-{
-    let mut output = [0u8; 64];
-    for slot in 0..64u8 {
-        output[slot as usize] = parity(register_at(slot), taps);
-    }
-    output
-}
 
 // 1 where an observed bit reads otherwise than the coded bit.
 fn erased_differs(sent: u8, received: u8) -> u8

@@ -13,6 +13,7 @@ pub mod Doubles
 pub mod Select
 pub mod Filled
 pub mod Running
+pub mod ByPlace
 pub mod Survivors
 pub mod Tracing
 pub mod Finding

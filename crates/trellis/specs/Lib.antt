@@ -1,4 +1,4 @@
--- The search for the nearest word: what it finds (Search), over which words (Words, Numbering), how (Trellis, Engine, Traceback, Ends).
+-- The search for the nearest word: what it finds (Search), over which words (Words, Numbering), how (Trellis, Engine, Traceback, Ends), with which outputs (Places).
 pub mod Search
 pub mod Numbering
 pub mod Words
@@ -6,3 +6,4 @@ pub mod Trellis
 pub mod Engine
 pub mod Traceback
 pub mod Ends
+pub mod Places

@@ -3,6 +3,7 @@
 // so that loads are contiguous.
 mod between;
 mod free;
+pub mod places;
 
 pub use between::nearest_between;
 use bits::wide;

@@ -1,55 +1,32 @@
--- The rows and the symbols give the branch metrics of the code: each generator's output bits by one test over the places. Assumes nothing.
-use mathlib.Core.Path.{_≡_, refl, sym, ap, ap₂, subst, _∙_}
+-- The rows and the symbols give the code's costs by place, so that a word's metric is its weight. Assumes nothing.
+use mathlib.Core.Path.{_≡_, sym, ap, ap₂, _∙_}
 use mathlib.Core.Bool.{Bool, true, false}
-use mathlib.Core.List.{List, [], _∷_, map}
-use Prim.Native.Nat.{ℕ, suc, _+_, _*_, _/_, _%_, _<_, _≤_}
+use mathlib.Core.List.{List, _∷_}
+use Prim.Native.Nat.{ℕ, _+_, _*_, _/_, _%_, _<_, _≤_}
 use native.Mathlib.Omega.{arith}
-use native.Mathlib.Nat.{add-zero}
-use lib.Bits.{bitAnd}
-use lib.Count.{ones}
 use lib.ListN.{length, getD, drop, length-map, List·getD-map}
-use lib.Seq.{drop-cons}
-use Rattle.bits.specs.Bits.{bit, byte, bits, differ, tally, allBinary}
-use Rattle.bits.proofs.Tested.{below-bit, sameBit, sameBit-eq}
-use Rattle.bits.proofs.Binary.{differ-le, binary-at, bit-byte, byte-below, byte-bit-any}
-use Rattle.coding.specs.Codes.{tapped, outputs, dcch}
+use Rattle.bits.specs.Bits.{bit, bits, differ, tally, allBinary}
+use Rattle.bits.proofs.Binary.{differ-le, binary-at}
+use Rattle.bits.proofs.Tally.{drop-two}
+use Rattle.coding.specs.Codes.{dcch}
 use Rattle.coding.specs.Registers.{memoryLow}
-use Rattle.trellis.specs.Engine.{slotFrom, branchBy, Rows}
-use Rattle.trellis.specs.Words.{branchOf}
-use Rattle.trellis.proofs.Running.{slot-below}
-use Rattle.viterbi.specs.Rows.{outputAt, distanceAt, DistancesTo, PairsTo, pairOf, SymbolsTo}
+use Rattle.trellis.specs.Engine.{branchBy, Rows}
+use Rattle.trellis.specs.Numbering.{newestLow}
+use Rattle.trellis.specs.Places.{outputAt}
+use Rattle.trellis.specs.Words.{wordMetric}
+use Rattle.trellis.proofs.ByPlace.{RowAt, metric-coded, outputsAt}
+use Rattle.viterbi.specs.Hard.{weightFrom}
+use Rattle.viterbi.specs.Rows.{distanceAt, PairsTo, pairOf, SymbolsTo}
 
 -- ---- one place
-tap-test : List Bool → ℕ → Bool → ℕ → Bool
-tap-test g taps b s = sameBit (outputAt taps (slotFrom s b)) (tapped g (b ∷ memoryLow s))
-
-first-output : (s : ℕ) (b : Bool) → s < 32 → outputAt 0b101011 (slotFrom s b) ≡ tapped (bits (1 ∷ 1 ∷ 0 ∷ 1 ∷ 0 ∷ 1 ∷ [])) (b ∷ memoryLow s)
-unfolding tap-test outputAt tapped ones
-first-output s b h = sameBit-eq _ _ (below-bit (tap-test (bits (1 ∷ 1 ∷ 0 ∷ 1 ∷ 0 ∷ 1 ∷ [])) 0b101011) 32 tt tt b s h)
-
-second-output : (s : ℕ) (b : Bool) → s < 32 → outputAt 0b111101 (slotFrom s b) ≡ tapped (bits (1 ∷ 0 ∷ 1 ∷ 1 ∷ 1 ∷ 1 ∷ [])) (b ∷ memoryLow s)
-unfolding tap-test outputAt tapped ones
-second-output s b h = sameBit-eq _ _ (below-bit (tap-test (bits (1 ∷ 0 ∷ 1 ∷ 1 ∷ 1 ∷ 1 ∷ [])) 0b111101) 32 tt tt b s h)
-
--- the parity of a count of ones, as a bit and as a byte
-pub output-byte : (taps slot register x : ℕ) → register ≡ (slot % 16 + slot / 32 * 16) * 2 + slot / 16 % 2 → x ≡ ones (bitAnd register taps) % 2 → x ≡ byte (outputAt taps slot)
-unfolding outputAt
-output-byte taps slot register x er ex = ex ∙ ap (λ (r : ℕ). ones (bitAnd r taps) % 2) er ∙ sym (byte-bit-any _)
-
-pub output-below : (taps slot x : ℕ) → x ≡ byte (outputAt taps slot) → x < 2
-output-below taps slot x e = omega (arith, byte-below (outputAt taps slot))
-
--- a place's distance from its two output bytes and the disagreements of each
-pub place-distance : (slot x y first second a b : ℕ) → x ≡ byte (outputAt 0b101011 slot) → y ≡ byte (outputAt 0b111101 slot)
-    → a ≡ differ (bit x) (bit first) → b ≡ differ (bit y) (bit second) → a + b ≡ distanceAt slot (bit first) (bit second)
-place-distance slot x y first second a b ex ey ea eb =
-    ap₂ (λ (m n : ℕ). m + n) (ea ∙ ap (λ (p : Bool). differ p (bit first)) (ap bit ex ∙ bit-byte (outputAt 0b101011 slot)))
-    (eb ∙ ap (λ (p : Bool). differ p (bit second)) (ap bit ey ∙ bit-byte (outputAt 0b111101 slot)))
-
-pub distance-le : (slot : ℕ) (first second : Bool) → distanceAt slot first second ≤ 2
+distance-le : (slot : ℕ) (first second : Bool) → distanceAt slot first second ≤ 2
 distance-le slot first second = omega (arith, differ-le (outputAt 0b101011 slot) first, differ-le (outputAt 0b111101 slot) second)
 
--- ---- the metrics of the rows
+distance-tally : (slot : ℕ) (first second : Bool) (r : List Bool) → distanceAt slot first second ≡ tally differ (outputsAt dcch slot) (first ∷ second ∷ r)
+unfolding tally
+distance-tally slot first second r = omega arith
+
+-- ---- the rows
 module _ (coded symbols : List ℕ) (rows : List (List ℕ)) (n : ℕ) (four : length rows ≡ 4) (size : length symbols ≡ n) (twice : length coded ≡ n * 2)
     (binary : allBinary coded ≡ true) (pairs : PairsTo rows 4) (read : SymbolsTo coded symbols n) where
   -- a symbol's two bits
@@ -61,23 +38,21 @@ module _ (coded symbols : List ℕ) (rows : List (List ℕ)) (n : ℕ) (four : l
       (omega arith, omega arith, omega arith)
 
   -- what was received of a step
-  received : (k : ℕ) → k < n → drop (k * 2) (bits coded) ≡ bit (getD coded (k * 2) 0) ∷ bit (getD coded (k * 2 + 1) 0) ∷ drop (suc (suc (k * 2))) (bits coded)
+  received : (k : ℕ) → k < n → drop (k * 2) (bits coded) ≡ bit (getD coded (k * 2) 0) ∷ bit (getD coded (k * 2 + 1) 0) ∷ drop (k * 2 + 2) (bits coded)
   received k h =
-      let l : length (bits coded) ≡ n * 2 = length-map coded bit ∙ twice in
-      let e : suc (k * 2) ≡ k * 2 + 1 = omega arith in
-      drop-cons (bits coded) (k * 2) false (omega arith)
-      ∙ ap₂ (λ (x : Bool) (r : List Bool). x ∷ r) (List·getD-map bit coded (k * 2) 0)
-      (drop-cons (bits coded) (suc (k * 2)) false (omega arith)
-      ∙ ap (λ (x : Bool). x ∷ drop (suc (suc (k * 2))) (bits coded)) (List·getD-map bit coded (suc (k * 2)) 0 ∙ ap (λ (i : ℕ). bit (getD coded i 0)) e))
+      drop-two (bits coded) (k * 2) false (omega (arith, length-map coded bit))
+      ∙ ap₂ (λ (x y : Bool). x ∷ y ∷ drop (k * 2 + 2) (bits coded)) (List·getD-map bit coded (k * 2) 0) (List·getD-map bit coded (k * 2 + 1) 0)
 
-  pub branches : (k s : ℕ) (b : Bool) → k < n → s < 32 → branchBy rows symbols k s b ≡ branchOf dcch memoryLow differ (bits coded) k s b
-  unfolding branchBy branchOf tally
-  branches k s b hk hs =
-      let x : ℕ = getD symbols k 0 in
-      pairs x (symbol k hk .0) (slotFrom s b) (slot-below s b hs)
-      ∙ ap₂ (λ (p q : Bool). distanceAt (slotFrom s b) p q) (ap bit (symbol k hk .1)) (ap bit (symbol k hk .2))
-      ∙ ap₂ (λ (p q : Bool). differ p (bit (getD coded (k * 2) 0)) + differ q (bit (getD coded (k * 2 + 1) 0))) (first-output s b hs) (second-output s b hs)
-      ∙ sym (ap (tally differ (outputs dcch (b ∷ memoryLow s))) (received k hk) ∙ ap (λ (y : ℕ). differ (tapped (bits (1 ∷ 1 ∷ 0 ∷ 1 ∷ 0 ∷ 1 ∷ [])) (b ∷ memoryLow s)) (bit (getD coded (k * 2) 0)) + y) (add-zero _))
+  row : (k : ℕ) → k < n → RowAt dcch differ (bits coded) rows symbols k
+  row k h slot low =
+      pairs (getD symbols k 0) (symbol k h .0) slot low
+      ∙ ap₂ (λ (p q : Bool). distanceAt slot p q) (ap bit (symbol k h .1)) (ap bit (symbol k h .2))
+      ∙ distance-tally slot (bit (getD coded (k * 2) 0)) (bit (getD coded (k * 2 + 1) 0)) (drop (k * 2 + 2) (bits coded))
+      ∙ ap (tally differ (outputsAt dcch slot)) (sym (received k h))
+
+  pub metric-weight : (s : ℕ) (u : List Bool) → s < 32 → length u ≤ n → wordMetric newestLow (branchBy rows symbols) s u ≡ weightFrom (memoryLow s) (bits coded) u
+  unfolding weightFrom
+  metric-weight = metric-coded dcch differ (bits coded) rows symbols tt n row
 
   -- no branch metric is above two
   pub modest : Rows rows symbols

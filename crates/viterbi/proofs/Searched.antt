@@ -1,8 +1,8 @@
 -- The two searches: what they ask of the engine, with the symbols in a lent part of an array, and what they find. Assumes nothing.
-use mathlib.Core.Path.{_≡_, refl, sym, subst, _∙_}
-use mathlib.Core.Bool.{Bool, true}
+use mathlib.Core.Path.{_≡_, refl, sym, subst}
+use mathlib.Core.Bool.{true}
 use mathlib.Core.List.{List, _++_}
-use Prim.Native.Nat.{ℕ, _*_, _<_, _≤_}
+use Prim.Native.Nat.{ℕ, _*_, _≤_}
 use native.Mathlib.Omega.{arith}
 use lib.ListN.{length, take, drop}
 use lib.Seq.{length-take-le}
@@ -18,8 +18,8 @@ use Rattle.trellis.proofs.PathWord.{leads-terminated, terminated-leads}
 use Rattle.trellis.proofs.Searching.{found-to, found-first-to}
 use Rattle.viterbi.specs.Hard.{weight, freeWeight}
 use Rattle.viterbi.specs.Rows.{PairsTo, SymbolsTo}
-use Rattle.viterbi.proofs.Branches.{branches, modest}
-use Rattle.viterbi.proofs.Weights.{metric-weight, free-weight}
+use Rattle.viterbi.proofs.Branches.{metric-weight, modest}
+use Rattle.viterbi.proofs.Weights.{free-weight}
 
 pub asks-fill : (n : ℕ) (coded l : List ℕ) → n ≤ 130 → n ≤ length l → length coded ≡ n * 2 → allBinary coded ≡ true
     → (length (take n l) ≤ 130) × (length coded ≡ length (take n l) * 2) × (allBinary coded ≡ true)
@@ -48,7 +48,7 @@ module _ (coded : List ℕ) (rows : List (List ℕ)) (n : ℕ) (four : length ro
       → FoundFirst (Terminated n) (weight (bits coded)) word r
   found-terminated h5 word r f =
       found-first-to (leads-terminated newestLow register-low refl n h5) (terminated-leads newestLow register-low refl n h5)
-      (λ u h. metric-weight (branchBy rows symbols) (bits coded) n (branches coded symbols rows n four size twice binary pairs read-all) 0 u (omega arith) (omega (arith, h .steps)))
+      (λ u h. metric-weight coded symbols rows n four size twice binary pairs read-all 0 u (omega arith) (omega (arith, h .steps)))
       word r
       (subst (λ (m : ℕ). FoundFirst (Leads newestLow 0 0 m) (wordMetric newestLow (branchBy rows symbols) 0) word r) size
       (subst (λ (x : List ℕ). FoundFirst (Leads newestLow 0 0 (length x)) (wordMetric newestLow (branchBy rows x) 0) word r) part f))
@@ -58,7 +58,7 @@ module _ (coded : List ℕ) (rows : List (List ℕ)) (n : ℕ) (four : length ro
       → Found (OfLength n) (freeWeight (bits coded)) word r
   found-free word r f =
       found-to (λ u h. h) (λ u h. h)
-      (λ u h. free-weight (branchBy rows symbols) (bits coded) n (branches coded symbols rows n four size twice binary pairs read-all) u (omega arith))
+      (λ u h. free-weight (branchBy rows symbols) (bits coded) n (metric-weight coded symbols rows n four size twice binary pairs read-all) u (omega arith))
       word r
       (subst (λ (m : ℕ). Found (OfLength m) (freeMetric newestLow (branchBy rows symbols)) word r) size
       (subst (λ (x : List ℕ). Found (OfLength (length x)) (freeMetric newestLow (branchBy rows x)) word r) part f))

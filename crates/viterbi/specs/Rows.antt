@@ -1,28 +1,15 @@
--- The rows of branch metrics of the engine, by place: the state has its newest input lowest.
+-- The rows of branch metrics, by place (trellis/specs/Places.antt).
 use mathlib.Core.Path.{_≡_}
 use mathlib.Core.Bool.{Bool}
 use mathlib.Core.List.{List, []}
 use Prim.Native.Nat.{ℕ, _+_, _*_, _/_, _%_, _<_}
-use lib.Bits.{bitAnd}
-use lib.Count.{ones}
 use lib.ListN.{getD}
-use Rattle.bits.specs.Bits.{bit, byte, differ}
-
--- the register of a place: the state with the input below it
-abbrev pub registerAt : ℕ → ℕ
-registerAt slot = (slot % 16 + slot / 32 * 16) * 2 + slot / 16 % 2
-
--- an output bit of a place
-unfoldable pub outputAt : ℕ → ℕ → Bool
-outputAt taps slot = bit (ones (bitAnd (registerAt slot) taps))
+use Rattle.bits.specs.Bits.{bit, differ}
+use Rattle.trellis.specs.Places.{outputAt}
 
 -- the disagreements of a place's two output bits with a received pair
 abbrev pub distanceAt : ℕ → Bool → Bool → ℕ
 distanceAt slot first second = differ (outputAt 0b101011 slot) first + differ (outputAt 0b111101 slot) second
-
--- the first k places of a list hold the output bits of a generator
-abbrev pub OutputsTo : ℕ → List ℕ → ℕ → Type 0
-OutputsTo taps l k = (slot : ℕ) → slot < k → getD l slot 0 ≡ byte (outputAt taps slot)
 
 -- the first k places of a row hold the distances of a pair
 abbrev pub DistancesTo : Bool → Bool → List ℕ → ℕ → Type 0

@@ -1,41 +1,23 @@
 // Hard-decision searches of the code of DCCH, SACCH and VSELP: specs/Hard.antt says what they find.
 // Ported from 136-bts (see NOTICE): `viterbi` of dcch.rs and the searches of sacch.rs and speech.rs, as one.
 use bits::differs;
-use coding::register::parity;
 use trellis::Outcome;
+use trellis::places::outputs;
 ghost use mathlib.Core.Bool.{true};
 ghost use mathlib.Core.Path.{_≡_};
 ghost use Prim.Native.Nat.{_*_, _<_, _≤_};
 ghost use lib.ListN.{length};
 ghost use Rattle.bits.specs.Bits.{allBinary, bit, bits};
+ghost use Rattle.trellis.specs.Places.{OutputsTo};
 ghost use Rattle.trellis.specs.Search.{Found, FoundFirst};
 ghost use Rattle.trellis.specs.Words.{OfLength, Terminated};
 ghost use Rattle.viterbi.specs.Hard.{freeWeight, weight};
-ghost use Rattle.viterbi.specs.Rows.{DistancesTo, OutputsTo, PairsTo, SymbolsTo, registerAt};
+ghost use Rattle.viterbi.specs.Rows.{DistancesTo, PairsTo, SymbolsTo};
 
 // The generators as the engine numbers its states, the newest input lowest.
 const G0: u8 = 0b101011;
 
 const G1: u8 = 0b111101;
-
-// The register of a place in a row: the places go by the state's low four bits, then the input, then the state's high bit.
-fn register_at(slot: u8) -> u8
-    requires { ⌜ slot < 64 ⌝ }
-    ensures { λ r. ⌜ r ≡ registerAt slot ⌝ }
-{
-    (slot % 16 + slot / 32 * 16) * 2 + slot / 16 % 2
-}
-
-// The output bits of one generator, by place.
-fn outputs(taps: u8) -> [u8; 64]
-    ensures { λ r. ⌜ OutputsTo taps r 64 ⌝ }
-{
-    let mut output = [0u8; 64];
-    for slot in 0..64u8 {
-        output[slot as usize] = parity(register_at(slot), taps);
-    }
-    output
-}
 
 // The disagreements with a received pair, by place.
 fn pair_row(p: &[u8; 64], q: &[u8; 64], first: u8, second: u8) -> [u16; 64]

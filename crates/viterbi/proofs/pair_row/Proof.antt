@@ -3,9 +3,9 @@ use mathlib.Core.Path.{_≡_, refl}
 use Prim.Native.Nat.{_-_}
 use native.Mathlib.Omega.{arith}
 use Rattle.bits.proofs.Filled.{Filling, filling-none, filling-more, filling-done}
-use Rattle.bits.specs.Bits.{bit}
+use Rattle.bits.specs.Bits.{bit, differ}
 use Rattle.viterbi.specs.Rows.{distanceAt}
-use Rattle.viterbi.proofs.Branches.{output-below, place-distance}
+use Rattle.trellis.proofs.ByPlace.{output-below, place-cost}
 use Rattle.viterbi.proofs.pair_row.Statement.{statement}
 use Rattle.viterbi.proofs.pair_row.Tie as tie
 
@@ -22,13 +22,13 @@ element-copy-out-differs : tie.Need-element-copy-out-differs Inv-loop μ-loop
 element-copy-out-differs c = omega arith
 
 differs-requires : tie.Need-differs-requires Inv-loop μ-loop
-differs-requires c κs = (output-below _ _ _ (c .before .before .before .pre .2 _ (omega arith)), c .before .before .before .pre .0)
+differs-requires c κs = (output-below _ _ _ (c .before .before .before .pre .2 _ (omega arith)), omega arith)
 
 element-copy-out-differs-2 : tie.Need-element-copy-out-differs-2 Inv-loop μ-loop
 element-copy-out-differs-2 c = omega arith
 
 differs-requires-2 : tie.Need-differs-requires-2 Inv-loop μ-loop
-differs-requires-2 c κs = (output-below _ _ _ (c .before .before .before .before .before .pre .3 _ (omega arith)), c .before .before .before .before .before .pre .1)
+differs-requires-2 c κs = (output-below _ _ _ (c .before .before .before .before .before .pre .3 _ (omega arith)), omega arith)
 
 add-row : tie.Need-add-row Inv-loop μ-loop
 add-row c = omega arith
@@ -51,10 +51,13 @@ loop-less c = omega arith
 loop-again : tie.Need-loop-again Inv-loop μ-loop
 loop-again c =
     let slot = c .before .before .before .before .before .loop .slot in
-    let args = c .before .before .before .before .before .before .args in
     let pre = c .before .before .before .before .before .before .pre in
     filling-more (c .before .before .before .before .before .loop .inv) _ (omega arith)
-    (place-distance slot _ _ (args .first) (args .second) _ _ (pre .2 slot (omega arith)) (pre .3 slot (omega arith)) (c .before .before .differs .ensures .0) (c .differs2 .ensures .0))
+    (omega (
+      arith,
+      place-cost differ _ slot _ _ _ (pre .2 slot (omega arith)) (c .before .before .differs .ensures .0),
+      place-cost differ _ slot _ _ _ (pre .3 slot (omega arith)) (c .differs2 .ensures .0),
+    ))
 
 returns : tie.Need-returns Inv-loop μ-loop
 returns c = filling-done (c .before .loop .inv) (omega arith)

@@ -4,7 +4,8 @@ use native.Mathlib.Omega.{arith}
 use mathlib.Core.Path.{_≡_, refl}
 use Rattle.bits.proofs.Filled.{Filling, filling-none, filling-more, filling-done}
 use Rattle.tailbiting.specs.Rows.{costAt}
-use Rattle.tailbiting.proofs.Branches.{output-below, place-cost}
+use Rattle.tailbiting.specs.TailBiting.{erasedDiffer}
+use Rattle.trellis.proofs.ByPlace.{output-below, place-cost}
 use Rattle.tailbiting.proofs.rows.step_row.Statement.{statement}
 use Rattle.tailbiting.proofs.rows.step_row.Tie as tie
 
@@ -72,10 +73,10 @@ loop-again c =
     filling-more (c .before .before .before .before .before .before .before .before .before .loop .inv) _ (omega arith)
     (omega (
       arith,
-      place-cost _ slot _ _ _ (pre .1 .0 slot (omega arith)) (c .before .before .before .before .before .before .erased-differs .ensures .0),
-      place-cost _ slot _ _ _ (pre .1 .1 slot (omega arith)) (c .before .before .before .before .erased-differs2 .ensures .0),
-      place-cost _ slot _ _ _ (pre .1 .2 slot (omega arith)) (c .before .before .erased-differs3 .ensures .0),
-      place-cost _ slot _ _ _ (pre .1 .3 slot (omega arith)) (c .erased-differs4 .ensures .0),
+      place-cost erasedDiffer _ slot _ _ _ (pre .1 .0 slot (omega arith)) (c .before .before .before .before .before .before .erased-differs .ensures .0),
+      place-cost erasedDiffer _ slot _ _ _ (pre .1 .1 slot (omega arith)) (c .before .before .before .before .erased-differs2 .ensures .0),
+      place-cost erasedDiffer _ slot _ _ _ (pre .1 .2 slot (omega arith)) (c .before .before .erased-differs3 .ensures .0),
+      place-cost erasedDiffer _ slot _ _ _ (pre .1 .3 slot (omega arith)) (c .erased-differs4 .ensures .0),
     ))
 
 returns : tie.Need-returns Inv-loop μ-loop

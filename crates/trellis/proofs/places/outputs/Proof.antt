@@ -1,13 +1,13 @@
--- `tailbiting::rows::outputs` meets its contract: the places passed hold the output bits. Assumes nothing.
+-- `trellis::places::outputs` meets its contract: the places passed hold the output bits. Assumes nothing.
 use mathlib.Core.Path.{_≡_, refl}
 use Prim.Native.Nat.{_-_}
 use native.Mathlib.Omega.{arith}
 use Rattle.bits.proofs.Filled.{Filling, filling-none, filling-more, filling-done}
 use Rattle.bits.specs.Bits.{byte}
-use Rattle.tailbiting.specs.Rows.{outputAt}
-use Rattle.tailbiting.proofs.Branches.{output-byte}
-use Rattle.tailbiting.proofs.rows.outputs.Statement.{statement}
-use Rattle.tailbiting.proofs.rows.outputs.Tie as tie
+use Rattle.trellis.specs.Places.{outputAt}
+use Rattle.trellis.proofs.ByPlace.{output-byte}
+use Rattle.trellis.proofs.places.outputs.Statement.{statement}
+use Rattle.trellis.proofs.places.outputs.Tie as tie
 
 abbrev Inv-loop : tie.InvT-loop
 Inv-loop taps output₀ slot₀ output slot = Filling (λ i x. x ≡ byte (outputAt taps i)) 0 64 output slot
