@@ -1,16 +1,13 @@
 -- The loop that passes the bits of a slot in order: the bits passed hold their places' elements. Assumes nothing.
-use mathlib.Core.Path.{_≡_, sym, ap, subst, _∙_}
+use mathlib.Core.Path.{_≡_, ap, _∙_}
 use mathlib.Core.List.{List}
 use Prim.Native.Nat.{ℕ, _+_, _/_, _%_, _<_, _≤_}
-use native.Mathlib.Decide.{ℕ-discrete}
-use native.Mathlib.Nat.{not-suc-le-zero}
 use native.Mathlib.Omega.{arith}
-use lib.ListN.{length, getD, set, length-set}
-use lib.Seq.{getD-set-same, getD-set-other}
+use lib.ListN.{length, getD, set}
 use Rattle.bits.proofs.Filled.{Filling, filling-none, filling-more}
 use Rattle.bits.proofs.Listed.{is-listed}
-use Rattle.facch.specs.Wire.{placeAt, wireOf, byRow, interleaved, deinterleaved}
-use Rattle.facch.proofs.Table.{place-below, wire-below, wire-of-place, place-of-wire}
+use Rattle.facch.specs.Wire.{placeAt, byRow, interleaved}
+use Rattle.facch.proofs.Table.{place-below}
 
 -- what `index` requires
 pub row-and-column : (wire : ℕ) → wire < 260 → (wire / 10 < 26) × (wire % 10 < 10)

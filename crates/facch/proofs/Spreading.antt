@@ -13,7 +13,7 @@ use borrow.Author.Tests.{eqb-true, eqb-false}
 use Rattle.bits.proofs.Listed.{is-listed}
 use Rattle.facch.specs.declared.WordHalf.{WordHalf}
 use Rattle.facch.specs.declared.WordHalf.the-variants.{Start, End}
-use Rattle.facch.specs.Wire.{placeOf, placeAt, wireOf, byRow, deinterleaved, observed, parityOf, Spread}
+use Rattle.facch.specs.Wire.{placeOf, placeAt, wireOf, deinterleaved, observed, parityOf, Spread}
 use Rattle.facch.proofs.Table.{place-below, wire-below, wire-of-place, place-of-wire}
 
 -- nothing was written yet

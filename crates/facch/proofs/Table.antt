@@ -1,8 +1,7 @@
 -- The slot order is a permutation of the word's places, with `wireOf` its inverse: tests that antt computes over the table. Assumes nothing.
-use mathlib.Core.Path.{_≡_, refl}
+use mathlib.Core.Path.{_≡_}
 use mathlib.Core.Bool.{Bool}
-use Prim.Native.Nat.{ℕ, _+_, _-_, _<_, _≤_}
-use native.Mathlib.Omega.{arith}
+use Prim.Native.Nat.{ℕ, _<_}
 use lib.Dec.{T, eqb, ltb, eqb→eq, ltb→lt}
 use Rattle.bits.specs.Places.{listed, placeIn}
 use Rattle.bits.proofs.Tested.{both, both-left, both-right, every, below}

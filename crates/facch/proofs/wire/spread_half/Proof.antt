@@ -15,13 +15,17 @@ parity-of-requires : tie.Need-parity-of-requires
 parity-of-requires c κs = search needs
 
 spread-rows-requires : tie.Need-spread-rows-requires
-spread-rows-requires c κs = (c .before .parity-of .ensures .1, c .before .before .before .before .before .before .before .before .before .pre .0, c .before .before .before .before .copy .kept .1 .0 ∙ c .before .before .before .before .before .before .before .before .before .pre .1)
+spread-rows-requires c κs =
+    let start = c .before .before .before .before .before .before .before .before .before in
+    (c .before .parity-of .ensures .1, start .pre .0, c .before .before .before .before .copy .kept .1 .0 ∙ start .pre .1)
 
 same-length : tie.Need-same-length
 same-length c = c .before .before .spread-rows .ensures .size ∙ sym (c .before .before .before .before .before .before .before .before .before .before .before .before .pre .1)
 
 returns : tie.Need-returns
-returns c = one-half (c .before .before .before .before .before .before .before .before .before .before .before .before .args .half) (c .before .before .before .before .parity-of .ensures .0) (copied-twos (c .before .before .before .before .before .before .before .before .before .before .before .before .args .coded .now) (c .before .before .before .before .before .before .before .before .before .before .before .before .pre .1) (c .before .before .before .before .before .before .before .copy .ensures .1)) (c .before .before .spread-rows .ensures)
+returns c =
+    let start = c .before .before .before .before .before .before .before .before .before .before .before .before in
+    one-half (start .args .half) (c .before .before .before .before .parity-of .ensures .0) (copied-twos (start .args .coded .now) (start .pre .1) (c .before .before .before .before .before .before .before .copy .ensures .1)) (c .before .before .spread-rows .ensures)
 
 pub spread-half-spec : {M : Type 1} → statement M
 spread-half-spec =

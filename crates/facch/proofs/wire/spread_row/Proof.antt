@@ -1,5 +1,5 @@
 -- `facch::wire::spread_row` meets its contract: the columns passed stand at their places. Assumes nothing.
-use mathlib.Core.Path.{_≡_, refl, sym, _∙_}
+use mathlib.Core.Path.{sym, _∙_}
 use Prim.Native.Nat.{_-_, _≤_}
 use native.Mathlib.Omega.{arith}
 use Rattle.facch.specs.Wire.{Spread}

@@ -24,7 +24,9 @@ add-spread-row : tie.Need-add-spread-row Inv-loop μ-loop
 add-spread-row c = search needs
 
 spread-row-requires : tie.Need-spread-row-requires Inv-loop μ-loop
-spread-row-requires c κs = (omega (arith, c .before .before .before .before .before .pre .0), c .before .before .before .before .before .pre .1, c .before .before .loop .inv .1 .size)
+spread-row-requires c κs =
+    let start = c .before .before .before .before .before in
+    (omega (arith, start .pre .0), start .pre .1, c .before .before .loop .inv .1 .size)
 
 add-pair : tie.Need-add-pair Inv-loop μ-loop
 add-pair c = search needs
