@@ -53,6 +53,7 @@ fn index(row: usize, column: usize) -> usize
     }
 }
 
+// Column three runs on from the columns before it, and from row 15 fills the places that the others leave.
 fn column_three(row: usize) -> usize
     requires { ⌜ (0 < row) × (row < 26) ⌝ }
     ensures { λ r. ⌜ r ≡ placeOf row 3 ⌝ }
