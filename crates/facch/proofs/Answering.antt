@@ -4,7 +4,6 @@ use mathlib.Core.Bool.{Bool, true, cond}
 use mathlib.Core.List.{List}
 use Prim.Native.Nat.{ℕ}
 use lib.ListN.{length}
-use lib.Dec.{eqb}
 use borrow.Author.Tests.{eq-eqb}
 use Rattle.bits.specs.Bits.{allBinary}
 use Rattle.bits.specs.Refusals.{refused, firstOf, exactOf, binaryOf}

@@ -125,8 +125,3 @@ module _ (slot : List ℕ) (binary : allBinary slot ≡ true) (size : length slo
       go : (place : ℕ) → place < 260 → (b : Bool) → ltb (getD (cond b slot (replicate 260 2)) (wireOf place) 0) 2 ≡ cond b true false
       go place h true = observed-bit place h
       go place h false = unobserved place h
-
--- ---- the rows of document 01's Table M
-pub rows : (placeOf 14 3 ≡ 88) × (placeOf 15 3 ≡ 216)
-unfolding table placeOf
-rows = (refl, refl)

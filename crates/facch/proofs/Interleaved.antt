@@ -5,7 +5,7 @@ use mathlib.Core.List.{List, map}
 use Prim.Native.Nat.{ℕ, _/_, _%_, _<_}
 use lib.Dec.{eqb}
 use lib.ListN.{length, getD, List·getD-map}
-use Rattle.bits.specs.Bits.{bit, byte, bits, bytes, allBinary}
+use Rattle.bits.specs.Bits.{bit, byte, bits, allBinary}
 use Rattle.bits.proofs.Binary.{binary-bytes, bytes-bits}
 use Rattle.bits.proofs.Listed.{length-listed, getD-listed, map-listed, listed-same}
 use Rattle.facch.specs.Wire.{placeAt, wireOf, byRow, interleaved, deinterleaved}

@@ -2,8 +2,10 @@
 pub mod Table
 pub mod Columns
 pub mod Passing
+pub mod Spreading
 pub mod Answering
 pub mod WordBits
 pub mod Biting
 pub mod Interleaved
 pub mod Halves
+pub mod TableRows

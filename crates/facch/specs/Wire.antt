@@ -1,7 +1,8 @@
 -- The slot order (IS-54-B 2.7.3.1.1.2): a slot carries 26 rows of ten bits; its even rows finish the previous word, its odd rows start the current one.
+use mathlib.Core.Path.{_≡_}
 use mathlib.Core.Bool.{cond}
 use mathlib.Core.List.{List, [], _∷_}
-use Prim.Native.Nat.{ℕ, _/_, _%_}
+use Prim.Native.Nat.{ℕ, _/_, _%_, _<_}
 use lib.Dec.{eqb}
 use lib.ListN.{length, getD, replicate}
 use Rattle.bits.specs.Places.{listed, placeIn}
@@ -70,6 +71,17 @@ deinterleaved d first second = listed 260 (λ (place : ℕ). getD (byRow (wireOf
 abbrev pub observed : WordHalf → List ℕ → List ℕ
 observed Start slot = deinterleaved 0 slot (replicate 260 2)
 observed End slot = deinterleaved 0 (replicate 260 2) slot
+
+-- a half's rows, modulo 2
+abbrev pub parityOf : WordHalf → ℕ
+parityOf Start = 1
+parityOf End = 0
+
+-- some of a slot's bits, written at their places; the other places as they were
+pub record Spread (Of : ℕ → Type 0) (slot coded₀ coded : List ℕ) : Type 0 where
+  pub size : length coded ≡ 260
+  pub right : (wire : ℕ) → wire < 260 → Of wire → getD coded (placeAt wire) 0 ≡ getD slot wire 0
+  pub kept : (wire : ℕ) → wire < 260 → (Of wire → ⊥) → getD coded (placeAt wire) 0 ≡ getD coded₀ (placeAt wire) 0
 
 -- ---- the calls
 -- two slices and room for the third: each length, then the symbols

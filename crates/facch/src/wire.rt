@@ -7,9 +7,9 @@ use bits::exact;
 use bits::first;
 use bits::only_bits;
 ghost use mathlib.Core.Path.{_≡_};
-ghost use Prim.Native.Nat.{_<_};
+ghost use Prim.Native.Nat.{_/_, _%_, _<_};
 ghost use lib.ListN.{getD, length};
-ghost use Rattle.facch.specs.Wire.{Deinterleaving, Interleaving, Observing, byRow, deinterleaved, interleaved, lentOne, lentTwo, observed, placeOf};
+ghost use Rattle.facch.specs.Wire.{Deinterleaving, Interleaving, Observing, Spread, byRow, deinterleaved, interleaved, lentOne, lentTwo, observed, parityOf, placeOf};
 
 const FIRST_ROW: [usize; 10] = [215, 256, 223, 258, 230, 219, 257, 227, 259, 189];
 
@@ -53,6 +53,7 @@ fn index(row: usize, column: usize) -> usize
     }
 }
 
+// Column three runs on from the columns before it, and from row 15 fills the places that the others leave.
 fn column_three(row: usize) -> usize
     requires { ⌜ (0 < row) × (row < 26) ⌝ }
     ensures { λ r. ⌜ r ≡ placeOf row 3 ⌝ }
@@ -85,27 +86,54 @@ fn gather(previous: &[u8], current: &[u8], slot: &mut [u8])
     }
 }
 
+// Writes the bits of one row of a slot at their places.
+fn spread_row(row: usize, slot: &[u8], coded: &mut [u8])
+    requires { ⌜ (row < 26) × (length (now slot) ≡ 260) × (length (now coded) ≡ 260) ⌝ }
+    ensures { λ _. ⌜ Spread (λ wire. wire / 10 ≡ row) (now (slot .entry)) (now (coded .entry)) (now (coded .exit)) ⌝ }
+{
+    for column in 0..10usize {
+        let place = index(row, column);
+        coded[place] = slot[row * 10 + column];
+    }
+}
+
+// The same of the even rows, or of the odd rows.
+fn spread_rows(parity: usize, slot: &[u8], coded: &mut [u8])
+    requires { ⌜ (parity < 2) × (length (now slot) ≡ 260) × (length (now coded) ≡ 260) ⌝ }
+    ensures { λ _. ⌜ Spread (λ wire. wire / 10 % 2 ≡ parity) (now (slot .entry)) (now (coded .entry)) (now (coded .exit)) ⌝ }
+{
+    for pair in 0..13usize {
+        spread_row(pair * 2 + parity, slot, coded);
+    }
+}
+
 // Writes the word that starts in one slot and is finished in the next.
 fn spread(first: &[u8], second: &[u8], coded: &mut [u8])
     requires { ⌜ (length (now first) ≡ 260) × (length (now second) ≡ 260) × (length (now coded) ≡ 260) ⌝ }
     ensures { λ _. ⌜ now (coded .exit) ≡ deinterleaved 0 (now (first .entry)) (now (second .entry)) ⌝ }
 {
-    for wire in 0..first.len() {
-        let place = index(wire / 10, wire % 10);
-        coded[place] = by_row(wire, second, first, wire);
+    spread_rows(1, first, coded);
+    spread_rows(0, second, coded);
+}
+
+// Whether a half is carried by the even rows or by the odd rows.
+fn parity_of(half: WordHalf) -> usize
+    ensures { λ r. ⌜ (r ≡ parityOf half) × (r < 2) ⌝ }
+{
+    match half {
+        WordHalf::Start => 1,
+        WordHalf::End => 0,
     }
 }
 
-// The same of one half alone: 2 stands for what the other half would carry.
+// Writes one half of a word, and 2 at the places of the other half.
 fn spread_half(slot: &[u8], half: WordHalf, coded: &mut [u8])
     requires { ⌜ (length (now slot) ≡ 260) × (length (now coded) ≡ 260) ⌝ }
     ensures { λ _. ⌜ now (coded .exit) ≡ observed half (now (slot .entry)) ⌝ }
 {
     let unread = [2u8; 260];
-    match half {
-        WordHalf::Start => spread(slot, &unread, coded),
-        WordHalf::End => spread(&unread, slot, coded),
-    }
+    bytes::copy(&unread, coded);
+    spread_rows(parity_of(half), slot, coded);
 }
 
 fn lent_one(a: &[u8], room: usize) -> Lent

@@ -14,7 +14,7 @@ ghost use mathlib.Core.List.{reverse};
 ghost use mathlib.Core.Path.{_≡_};
 ghost use Prim.Native.Nat.{_<_, _≤_};
 ghost use lib.ListN.{length, replicate, take};
-ghost use Rattle.bits.specs.Bits.{allBinary, bits, byte, bytes};
+ghost use Rattle.bits.specs.Bits.{allBinary, bits, bytes};
 ghost use Rattle.coding.specs.Registers.{memoryHigh};
 ghost use Rattle.facch.specs.Words.{Encoding, lentEncode, messageOf, tailBiting, wordOf};
 

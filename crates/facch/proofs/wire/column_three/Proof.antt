@@ -1,5 +1,4 @@
 -- `facch::wire::column_three` meets its contract. Assumes nothing.
-use native.Mathlib.Omega.{arith}
 use Rattle.facch.proofs.Columns.{column-three-start, column-three-end}
 use borrow.Author.Needs.{needs}
 use Rattle.facch.proofs.wire.column_three.Statement.{statement}

@@ -17,7 +17,9 @@ enum-told : tie.Need-enum-told
 enum-told c = search needs
 
 spread-requires : tie.Need-spread-requires
-spread-requires c κs = two-fine (c .before .before .before .before .before .before .before .args .first .now) (c .before .before .before .before .before .before .before .args .second .now) _ (c .before .before .before .lent-two .ensures) (c .before .enum-told .given .1)
+spread-requires c κs =
+    let start = c .before .before .before .before .before .before .before in
+    two-fine (start .args .first .now) (start .args .second .now) _ (c .before .before .before .lent-two .ensures) (c .before .enum-told .given .1)
 
 same-length : tie.Need-same-length
 same-length c = search needs

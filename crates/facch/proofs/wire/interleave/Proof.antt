@@ -17,7 +17,9 @@ enum-told : tie.Need-enum-told
 enum-told c = search needs
 
 gather-requires : tie.Need-gather-requires
-gather-requires c κs = two-fine (c .before .before .before .before .before .before .before .args .previous .now) (c .before .before .before .before .before .before .before .args .current .now) _ (c .before .before .before .lent-two .ensures) (c .before .enum-told .given .1)
+gather-requires c κs =
+    let start = c .before .before .before .before .before .before .before in
+    two-fine (start .args .previous .now) (start .args .current .now) _ (c .before .before .before .lent-two .ensures) (c .before .enum-told .given .1)
 
 same-length : tie.Need-same-length
 same-length c = search needs

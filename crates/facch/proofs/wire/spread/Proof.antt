@@ -1,58 +1,22 @@
--- `facch::wire::spread` meets its contract: the places of the bits passed hold the bytes. Assumes nothing.
-use mathlib.Core.Path.{_≡_, refl, sym, _∙_}
-use Prim.Native.Nat.{_-_}
+-- `facch::wire::spread` meets its contract: the odd rows of one slot, then the even rows of the other. Assumes nothing.
+use mathlib.Core.Path.{sym, _∙_}
 use native.Mathlib.Omega.{arith}
-use lib.ListN.{length}
-use Rattle.facch.proofs.Passing.{Spreading, spreading-none, spreading-more, spreading-done, row-and-column, in-word}
+use Rattle.facch.proofs.Spreading.{both-halves}
 use borrow.Author.Needs.{needs}
 use Rattle.facch.proofs.wire.spread.Statement.{statement}
 use Rattle.facch.proofs.wire.spread.Tie as tie
 
-abbrev Inv-loop : tie.InvT-loop
-Inv-loop first second coded₀ wire₀ wire-end coded wire = (wire-end ≡ length first) × Spreading first second coded wire
+spread-rows-requires : tie.Need-spread-rows-requires
+spread-rows-requires c κs = search needs
 
-abbrev μ-loop : tie.MeasureT-loop
-μ-loop first second coded₀ wire₀ wire-end coded wire = wire-end - wire
+spread-rows-requires-2 : tie.Need-spread-rows-requires-2
+spread-rows-requires-2 c κs = (omega arith, search needs, c .before .before .before .spread-rows .ensures .size)
 
-loop-holds : tie.Need-loop-holds Inv-loop μ-loop
-loop-holds c = (refl, spreading-none (c .before .before .before .pre .2))
+same-length : tie.Need-same-length
+same-length c = c .before .before .spread-rows2 .ensures .size ∙ sym (c .before .before .before .before .before .before .before .before .before .before .before .pre .2)
 
-index-requires : tie.Need-index-requires Inv-loop μ-loop
-index-requires c κs = row-and-column _ (omega arith)
-
-by-row-requires : tie.Need-by-row-requires Inv-loop μ-loop
-by-row-requires c κs = (omega (arith, in-word (omega arith) (c .index .ensures)), omega (arith, in-word (omega arith) (c .index .ensures)))
-
-slice-write-coded : tie.Need-slice-write-coded Inv-loop μ-loop
-slice-write-coded c = omega (arith, c .before .before .before .loop .inv .1 .size, in-word (omega arith) (c .before .index .ensures))
-
-add-wire : tie.Need-add-wire Inv-loop μ-loop
-add-wire c = search needs
-
-loop-less : tie.Need-loop-less Inv-loop μ-loop
-loop-less c = search needs
-
-loop-again : tie.Need-loop-again Inv-loop μ-loop
-loop-again c = (refl, spreading-more (c .before .before .before .loop .inv .1) (omega arith) (c .before .index .ensures) (c .by-row .ensures))
-
-same-length : tie.Need-same-length Inv-loop μ-loop
-same-length c = c .before .loop .inv .1 .size ∙ sym (c .before .before .before .before .before .pre .2)
-
-returns : tie.Need-returns Inv-loop μ-loop
-returns c = spreading-done (c .before .loop .inv .1) (omega arith)
+returns : tie.Need-returns
+returns c = both-halves (c .before .before .before .before .before .before .spread-rows .ensures) (c .before .before .spread-rows2 .ensures)
 
 pub spread-spec : {M : Type 1} → statement M
-spread-spec =
-    tie.close
-    (tie.spec
-    Inv-loop
-    μ-loop
-    loop-holds
-    index-requires
-    by-row-requires
-    slice-write-coded
-    add-wire
-    loop-less
-    loop-again
-    same-length
-    returns)
+spread-spec = tie.close (tie.spec spread-rows-requires spread-rows-requires-2 same-length returns)

@@ -1,51 +1,39 @@
--- `facch::wire::spread_half` meets its contract, by the half. Assumes nothing.
-use mathlib.Core.Path.{sym, ap, _∙_}
-use Rattle.facch.specs.Wire.{observed}
+-- `facch::wire::spread_half` meets its contract: twos, and then the rows of the half. Assumes nothing.
+use mathlib.Core.Path.{sym, _∙_}
+use Rattle.facch.proofs.Spreading.{one-half, copied-twos}
 use borrow.Author.Needs.{needs}
 use Rattle.facch.proofs.wire.spread_half.Statement.{statement}
 use Rattle.facch.proofs.wire.spread_half.Tie as tie
 
-enum-told : tie.Need-enum-told
-enum-told c = search needs
+slice-aggregate-copy : tie.Need-slice-aggregate-copy
+slice-aggregate-copy c = search needs
 
-slice-aggregate-spread : tie.Need-slice-aggregate-spread
-slice-aggregate-spread c = search needs
+copy-requires : tie.Need-copy-requires
+copy-requires c κs = search needs
 
-spread-requires : tie.Need-spread-requires
-spread-requires c κs = search needs
+parity-of-requires : tie.Need-parity-of-requires
+parity-of-requires c κs = search needs
 
-enum-told-2 : tie.Need-enum-told-2
-enum-told-2 c = search needs
-
-slice-aggregate-spread-2 : tie.Need-slice-aggregate-spread-2
-slice-aggregate-spread-2 c = search needs
-
-spread-requires-2 : tie.Need-spread-requires-2
-spread-requires-2 c κs = search needs
+spread-rows-requires : tie.Need-spread-rows-requires
+spread-rows-requires c κs =
+    let start = c .before .before .before .before .before .before .before .before .before in
+    (c .before .parity-of .ensures .1, start .pre .0, c .before .before .before .before .copy .kept .1 .0 ∙ start .pre .1)
 
 same-length : tie.Need-same-length
-same-length c = search needs
+same-length c = c .before .before .spread-rows .ensures .size ∙ sym (c .before .before .before .before .before .before .before .before .before .before .before .before .pre .1)
 
 returns : tie.Need-returns
-returns c = c .before .before .spread .ensures ∙ sym (ap (λ half. observed half (c .before .before .before .before .before .before .before .before .before .args .slot .now)) (c .before .before .before .before .before .enum-told .given .1))
-
-same-length-2 : tie.Need-same-length-2
-same-length-2 c = search needs
-
-returns-2 : tie.Need-returns-2
-returns-2 c = c .before .before .spread2 .ensures ∙ sym (ap (λ half. observed half (c .before .before .before .before .before .before .before .before .before .args .slot .now)) (c .before .before .before .before .before .enum-told2 .given .1))
+returns c =
+    let start = c .before .before .before .before .before .before .before .before .before .before .before .before in
+    one-half (start .args .half) (c .before .before .before .before .parity-of .ensures .0) (copied-twos (start .args .coded .now) (start .pre .1) (c .before .before .before .before .before .before .before .copy .ensures .1)) (c .before .before .spread-rows .ensures)
 
 pub spread-half-spec : {M : Type 1} → statement M
 spread-half-spec =
     tie.close
     (tie.spec
-    enum-told
-    slice-aggregate-spread
-    spread-requires
-    enum-told-2
-    slice-aggregate-spread-2
-    spread-requires-2
+    slice-aggregate-copy
+    copy-requires
+    parity-of-requires
+    spread-rows-requires
     same-length
-    returns
-    same-length-2
-    returns-2)
+    returns)

@@ -27,13 +27,17 @@ slice-aggregate-encode-word : tie.Need-slice-aggregate-encode-word
 slice-aggregate-encode-word c = search needs
 
 encode-word-requires : tie.Need-encode-word-requires
-encode-word-requires c κs = asks-word (c .before .before .before .before .before .before .before .before .before .args .continuation) (c .before .before .before .before .before .before .before .before .before .args .message) (c .before .before .before .before .before .before .before .before .before .args .dvcc) (c .before .before .before .fill-word .ensures) _ (c .before .before .before .before .before .before .before .lent-encode .ensures) (c .before .before .before .before .before .enum-told .given .1)
+encode-word-requires c κs =
+    let start = c .before .before .before .before .before .before .before .before .before in
+    asks-word (start .args .continuation) (start .args .message) (start .args .dvcc) (c .before .before .before .fill-word .ensures) _ (c .before .before .before .before .before .before .before .lent-encode .ensures) (c .before .before .before .before .before .enum-told .given .1)
 
 same-length : tie.Need-same-length
 same-length c = search needs
 
 returns-2 : tie.Need-returns-2
-returns-2 c = done-end (c .before .before .before .before .before .before .before .before .before .before .lent-encode .ensures) (c .before .before .before .before .before .before .before .before .enum-told .given .1) (word-coded (c .before .before .before .before .before .before .before .before .before .before .before .before .args .continuation) (c .before .before .before .before .before .before .before .before .before .before .before .before .args .message) (c .before .before .before .before .before .before .before .before .before .before .before .before .args .dvcc) (c .before .before .before .before .before .before .fill-word .ensures) (c .before .before .encode-word .ensures))
+returns-2 c =
+    let start = c .before .before .before .before .before .before .before .before .before .before .before .before in
+    done-end (c .before .before .before .before .before .before .before .before .before .before .lent-encode .ensures) (c .before .before .before .before .before .before .before .before .enum-told .given .1) (word-coded (start .args .continuation) (start .args .message) (start .args .dvcc) (c .before .before .before .before .before .before .fill-word .ensures) (c .before .before .encode-word .ensures))
 
 pub encode-spec : {M : Type 1} → statement M
 encode-spec =

@@ -21,13 +21,19 @@ slice-relend-prefix-convolutional-encode : tie.Need-slice-relend-prefix-convolut
 slice-relend-prefix-convolutional-encode c = search needs
 
 slice-aggregate-convolutional-encode : tie.Need-slice-aggregate-convolutional-encode
-slice-aggregate-convolutional-encode c = first-part (c .before .before .before .before .before .args .word .now) (c .before .before .before .before .before .args .coded .now) (c .before .before .before .before .before .pre .0) (c .before .before .before .before .before .pre .1) (c .before .before .before .before .before .pre .2)
+slice-aggregate-convolutional-encode c =
+    let start = c .before .before .before .before .before in
+    first-part (start .args .word .now) (start .args .coded .now) (start .pre .0) (start .pre .1) (start .pre .2)
 
 convolutional-encode-requires : tie.Need-convolutional-encode-requires
-convolutional-encode-requires c κs = asks-rest (c .before .before .before .before .before .args .word .now) (c .before .before .before .before .before .args .coded .now) (c .before .before .before .before .before .pre .0) (c .before .before .before .before .before .pre .1) (c .before .before .before .before .before .pre .2) (c .before .before .start-memory .ensures .0)
+convolutional-encode-requires c κs =
+    let start = c .before .before .before .before .before in
+    asks-rest (start .args .word .now) (start .args .coded .now) (start .pre .0) (start .pre .1) (start .pre .2) (c .before .before .start-memory .ensures .0)
 
 slice-aggregate-convolutional-encode-2 : tie.Need-slice-aggregate-convolutional-encode-2
-slice-aggregate-convolutional-encode-2 c = five-bits (c .before .before .before .before .before .before .before .before .before .args .word .now) (c .before .before .before .before .before .before .before .before .before .args .coded .now) (c .before .before .before .before .before .before .before .before .before .pre .0) (c .before .before .before .before .before .before .before .before .before .pre .1) (c .before .before .before .before .before .before .before .before .before .pre .2)
+slice-aggregate-convolutional-encode-2 c =
+    let start = c .before .before .before .before .before .before .before .before .before in
+    five-bits (start .args .word .now) (start .args .coded .now) (start .pre .0) (start .pre .1) (start .pre .2)
 
 sub-convolutional-encode-2 : tie.Need-sub-convolutional-encode-2
 sub-convolutional-encode-2 c = search needs
@@ -39,13 +45,17 @@ part-convolutional-encode-end-2 : tie.Need-part-convolutional-encode-end-2
 part-convolutional-encode-end-2 c = search needs
 
 convolutional-encode-requires-2 : tie.Need-convolutional-encode-requires-2
-convolutional-encode-requires-2 c κs = asks-first (c .before .before .before .before .before .before .before .before .before .before .args .word .now) (c .before .before .before .before .before .before .before .before .before .before .args .coded .now) (c .before .before .before .before .before .before .before .before .before .before .pre .0) (c .before .before .before .before .before .before .before .before .before .before .pre .1) (c .before .before .before .before .before .before .before .before .before .before .pre .2) (c .before .before .before .before .convolutional-encode .last .1 .1 .0) (c .before .before .before .before .convolutional-encode .kept .1 .1 .0) (omega (arith, c .before .before .before .before .convolutional-encode .ensures .below, c .before .before .before .before .before .before .before .start-memory .ensures .0))
+convolutional-encode-requires-2 c κs =
+    let start = c .before .before .before .before .before .before .before .before .before .before in
+    asks-first (start .args .word .now) (start .args .coded .now) (start .pre .0) (start .pre .1) (start .pre .2) (c .before .before .before .before .convolutional-encode .last .1 .1 .0) (c .before .before .before .before .convolutional-encode .kept .1 .1 .0) (omega (arith, c .before .before .before .before .convolutional-encode .ensures .below, c .before .before .before .before .before .before .before .start-memory .ensures .0))
 
 same-length : tie.Need-same-length
 same-length c = search needs
 
 returns : tie.Need-returns
-returns c = bitten (c .before .before .before .before .before .before .before .before .before .before .before .before .before .args .word .now) (c .before .before .before .before .before .before .before .before .before .before .before .before .before .args .coded .now) (c .before .before .before .before .before .before .before .before .before .before .before .before .before .pre .0) (c .before .before .before .before .before .before .before .before .before .before .before .before .before .pre .1) (c .before .before .before .before .before .before .before .before .before .before .before .before .before .pre .2) (c .before .before .before .before .before .before .before .convolutional-encode .last .1 .1 .0) (c .before .before .before .before .before .before .before .convolutional-encode .kept .1 .1 .0) (c .before .before .before .before .before .before .before .before .before .before .start-memory .ensures .1) (c .before .before .before .before .before .before .before .convolutional-encode .ensures) (c .before .before .convolutional-encode2 .ensures)
+returns c =
+    let start = c .before .before .before .before .before .before .before .before .before .before .before .before .before in
+    bitten (start .args .word .now) (start .args .coded .now) (start .pre .0) (start .pre .1) (start .pre .2) (c .before .before .before .before .before .before .before .convolutional-encode .last .1 .1 .0) (c .before .before .before .before .before .before .before .convolutional-encode .kept .1 .1 .0) (c .before .before .before .before .before .before .before .before .before .before .start-memory .ensures .1) (c .before .before .before .before .before .before .before .convolutional-encode .ensures) (c .before .before .convolutional-encode2 .ensures)
 
 pub encode-word-spec : {M : Type 1} → statement M
 encode-word-spec =

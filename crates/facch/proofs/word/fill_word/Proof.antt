@@ -24,13 +24,19 @@ unpack-requires : tie.Need-unpack-requires
 unpack-requires c κs = search needs
 
 slice-reshare-prefix-checksum-of-bits : tie.Need-slice-reshare-prefix-checksum-of-bits
-slice-reshare-prefix-checksum-of-bits c = omega (arith, filled-length (c .before .before .before .before .before .args .continuation) (c .before .before .before .before .before .args .message) (c .before .before .before .before .before .pre) (c .before .before .unpack .ensures))
+slice-reshare-prefix-checksum-of-bits c =
+    let start = c .before .before .before .before .before in
+    omega (arith, filled-length (start .args .continuation) (start .args .message) (start .pre) (c .before .before .unpack .ensures))
 
 slice-aggregate-checksum-of-bits : tie.Need-slice-aggregate-checksum-of-bits
-slice-aggregate-checksum-of-bits c = part-of (c .before .before .before .before .before .before .args .continuation) (c .before .before .before .before .before .before .args .message) (c .before .before .before .before .before .before .pre) (c .before .before .before .unpack .ensures) _ (omega arith)
+slice-aggregate-checksum-of-bits c =
+    let start = c .before .before .before .before .before .before in
+    part-of (start .args .continuation) (start .args .message) (start .pre) (c .before .before .before .unpack .ensures) _ (omega arith)
 
 checksum-of-bits-requires : tie.Need-checksum-of-bits-requires
-checksum-of-bits-requires c κs = search (part-binary (c .before .before .before .before .before .before .args .continuation) (c .before .before .before .before .before .before .args .message) (c .before .before .before .before .before .before .pre) (c .before .before .before .unpack .ensures))
+checksum-of-bits-requires c κs =
+    let start = c .before .before .before .before .before .before in
+    search (part-binary (start .args .continuation) (start .args .message) (start .pre) (c .before .before .before .unpack .ensures))
 
 cast-unpack : tie.Need-cast-unpack
 cast-unpack c = search needs
@@ -42,16 +48,22 @@ part-unpack-start-2 : tie.Need-part-unpack-start-2
 part-unpack-start-2 c = search needs
 
 part-unpack-end-2 : tie.Need-part-unpack-end-2
-part-unpack-end-2 c = omega (arith, filled-length (c .before .before .before .before .before .before .before .args .continuation) (c .before .before .before .before .before .before .before .args .message) (c .before .before .before .before .before .before .before .pre) (c .before .before .before .before .unpack .ensures))
+part-unpack-end-2 c =
+    let start = c .before .before .before .before .before .before .before in
+    omega (arith, filled-length (start .args .continuation) (start .args .message) (start .pre) (c .before .before .before .before .unpack .ensures))
 
 unpack-requires-2 : tie.Need-unpack-requires-2
 unpack-requires-2 c κs = search needs
 
 same-length : tie.Need-same-length
-same-length c = word-kept (c .before .before .before .before .before .before .before .before .before .before .before .args .continuation) (c .before .before .before .before .before .before .before .before .before .before .before .args .message) (c .before .before .before .before .before .before .before .before .before .before .before .pre) (c .before .before .before .before .before .before .before .before .unpack .ensures) _ (c .before .before .before .before .checksum-of-bits .ensures) (c .before .before .unpack2 .ensures)
+same-length c =
+    let start = c .before .before .before .before .before .before .before .before .before .before .before in
+    word-kept (start .args .continuation) (start .args .message) (start .pre) (c .before .before .before .before .before .before .before .before .unpack .ensures) _ (c .before .before .before .before .checksum-of-bits .ensures) (c .before .before .unpack2 .ensures)
 
 returns : tie.Need-returns
-returns c = word-filled (c .before .before .before .before .before .before .before .before .before .before .before .args .continuation) (c .before .before .before .before .before .before .before .before .before .before .before .args .message) (c .before .before .before .before .before .before .before .before .before .before .before .pre) (c .before .before .before .before .before .before .before .before .unpack .ensures) _ (c .before .before .before .before .checksum-of-bits .ensures) (c .before .before .unpack2 .ensures)
+returns c =
+    let start = c .before .before .before .before .before .before .before .before .before .before .before in
+    word-filled (start .args .continuation) (start .args .message) (start .pre) (c .before .before .before .before .before .before .before .before .unpack .ensures) _ (c .before .before .before .before .checksum-of-bits .ensures) (c .before .before .unpack2 .ensures)
 
 pub fill-word-spec : {M : Type 1} → statement M
 fill-word-spec =

@@ -1,6 +1,5 @@
 -- `facch::word::only_message` meets its contract. Assumes nothing.
 use borrow.Author.Tests.{lt-ltb, le-ltb}
-use borrow.Author.Needs.{needs}
 use Rattle.facch.proofs.word.only_message.Statement.{statement}
 use Rattle.facch.proofs.word.only_message.Tie as tie
 

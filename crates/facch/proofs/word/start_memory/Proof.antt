@@ -20,7 +20,9 @@ shared-slice-read-result-5 : tie.Need-shared-slice-read-result-5
 shared-slice-read-result-5 c = search needs
 
 returns : tie.Need-returns
-returns c = starts (c .before .before .before .before .before .args .word .now) (c .before .before .before .before .before .pre .0) (c .before .before .before .before .before .pre .1)
+returns c =
+    let start = c .before .before .before .before .before in
+    starts (start .args .word .now) (start .pre .0) (start .pre .1)
 
 pub start-memory-spec : {M : Type 1} → statement M
 start-memory-spec =
