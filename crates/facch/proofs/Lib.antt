@@ -7,3 +7,7 @@ pub mod WordBits
 pub mod Biting
 pub mod Interleaved
 pub mod Halves
+pub mod Received
+pub mod Rotating
+pub mod Turned
+pub mod Settling
