@@ -9,3 +9,7 @@ pub mod Biting
 pub mod Interleaved
 pub mod Halves
 pub mod TableRows
+pub mod Received
+pub mod Rotating
+pub mod Turned
+pub mod Settling

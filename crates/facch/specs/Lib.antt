@@ -1,4 +1,5 @@
--- FACCH words: the slot order, the word and its coded bits, and the calls.
+-- FACCH words: the slot order, the word and its coded bits, its decoding, and the calls.
 pub mod Calls
 pub mod Wire
 pub mod Words
+pub mod Decoding

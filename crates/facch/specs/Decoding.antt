@@ -1,0 +1,103 @@
+-- Decoding of a word: the nearest word over the observed bits (IS-54-B 2.7.3.1.1). A byte 2 stands for a bit that was not observed.
+-- A word is its 65 bits, oldest first.
+use mathlib.Core.Path.{_≡_}
+use mathlib.Core.Bool.{Bool, true, false, cond}
+use mathlib.Core.List.{List, [], _∷_}
+use Prim.Native.Nat.{ℕ, _+_, _<_, _≤_}
+use lib.Dec.{eqb}
+use lib.ListN.{length, getD, take, drop}
+use Rattle.bits.specs.Bits.{bytes, tally}
+use Rattle.bits.specs.Numbers.{packed}
+use Rattle.bits.specs.Refusals.{Answer, accepted, refused, firstOf, exactOf, binaryOf}
+use Rattle.bits.specs.declared.Lent.{Lent}
+use Rattle.bits.specs.declared.Lent.the-variants.{Fine, Refused}
+use Rattle.bits.specs.declared.Refusal.{Refusal}
+use Rattle.bits.specs.declared.Refusal.the-variants as refusal
+use Rattle.coding.specs.Checksums.{checksumOf}
+use Rattle.coding.specs.declared.checksum.CrcMode.the-variants.{Addressed}
+use Rattle.trellis.specs.Search.{Nearest, Ambiguous}
+use Rattle.trellis.specs.Words.{OfLength}
+use Rattle.trellis.specs.declared.Outcome.{Outcome}
+use Rattle.tailbiting.specs.TailBiting.{allErasable, erasedDiffer}
+use Rattle.facch.specs.declared.Decoded.{Decoded}
+use Rattle.facch.specs.declared.Decoded.the-variants as decoded
+use Rattle.facch.specs.Words.{tailBiting}
+
+-- ---- what was received
+-- 1 where a byte is observed
+unfoldable pub seen : ℕ → ℕ
+seen x = cond (eqb x 2) 0 1
+
+-- the number of observed bytes
+unfoldable pub observedCount : List ℕ → ℕ
+observedCount [] = 0
+observedCount (x ∷ received) = seen x + observedCount received
+
+-- the disagreements of a word over the observed bits
+unfoldable pub weight : List ℕ → List Bool → ℕ
+weight received w = tally erasedDiffer (tailBiting w) received
+
+-- Symbol where a byte is above 2
+abbrev pub erasableOf : List ℕ → Lent
+erasableOf l = cond (allErasable l) Fine (Refused refusal.Symbol)
+
+-- the length, then the symbols: bytes 0, 1 and 2
+abbrev pub lentErased : List ℕ → Lent
+lentErased coded = firstOf (exactOf 260 (length coded)) (erasableOf coded)
+
+-- the same where every bit is observed: bytes 0 and 1
+abbrev pub lentDecode : List ℕ → Lent
+lentDecode coded = firstOf (exactOf 260 (length coded)) (binaryOf coded)
+
+-- ---- what is answered
+-- the content of a word, the message as a number with its first bit highest
+pub record Content : Type 0 where
+  pub continuation : Bool
+  pub message : ℕ
+  pub corrected : ℕ
+  pub observed : ℕ
+
+-- what each answer is to document 01
+abbrev pub decodeAnswer : Decoded → Answer Content
+decodeAnswer (decoded.Accepted continuation message corrected observed) =
+    accepted (record { continuation = continuation; message = message; corrected = corrected; observed = observed })
+decodeAnswer (decoded.Refused why) = refused why
+
+-- the content of a word with its corrected and observed bits
+unfoldable pub contentOf : List Bool → ℕ → ℕ → Content
+contentOf w corrected observed =
+    record { continuation = getD w 0 false; message = packed (take 48 (drop 1 w)); corrected = corrected; observed = observed }
+
+-- whether the checksum in a word is that of its first 49 bits
+unfoldable pub sound : List Bool → ℕ → Bool
+sound w dvcc = eqb (packed (take 16 (drop 49 w))) (checksumOf (take 49 w) dvcc Addressed)
+
+-- the end of a decoding: the content where the checksum is right, else Crc
+pub record Finished (w : List Bool) (corrected observed dvcc : ℕ) (answer : Answer Content) : Type 0 where
+  pub taken : sound w dvcc ≡ true → answer ≡ accepted (contentOf w corrected observed)
+  pub spoilt : sound w dvcc ≡ false → answer ≡ refused refusal.Crc
+
+-- the nearest word decides
+pub record Settled (received : List ℕ) (dvcc : ℕ) (answer : Answer Content) : Type 0 where
+  pub word : List Bool
+  pub nearest : Nearest (OfLength 65) (weight received) word
+  pub finished : Finished word (weight received word) (observedCount received) dvcc answer
+
+-- too few observed bits; two nearest words; or one
+pub record Answered (received : List ℕ) (dvcc : ℕ) (answer : Answer Content) : Type 0 where
+  pub scarce : observedCount received < 65 → answer ≡ refused refusal.InsufficientObservations
+  pub unclear : 65 ≤ observedCount received → Ambiguous (OfLength 65) (weight received) → answer ≡ refused refusal.Ambiguous
+  pub settled : 65 ≤ observedCount received → (Ambiguous (OfLength 65) (weight received) → ⊥) → Settled received dvcc answer
+
+pub record Decoding (lent : Lent) (received : List ℕ) (dvcc : ℕ) (answer : Answer Content) : Type 0 where
+  pub declined : (why : Refusal) → lent ≡ Refused why → answer ≡ refused why
+  pub answered : lent ≡ Fine → Answered received dvcc answer
+
+-- ---- what the search writes: a nearest word, as bytes, its weight, and whether another weighs as little
+pub record Searched (received word : List ℕ) (r : Outcome) : Type 0 where
+  pub bits : List Bool
+  pub written : word ≡ bytes bits
+  pub nearest : Nearest (OfLength 65) (weight received) bits
+  pub metric : r .metric ≡ weight received bits
+  pub tied : r .tie ≡ true → Ambiguous (OfLength 65) (weight received)
+  pub alone : Ambiguous (OfLength 65) (weight received) → r .tie ≡ true
