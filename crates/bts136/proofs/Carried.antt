@@ -1,4 +1,5 @@
 -- An answer of a codec, made flat. Assumes nothing.
+use mathlib.Core.Bool.{false}
 use mathlib.Core.Path.{_≡_, sym, ap, subst, _∙_}
 use Prim.Native.Nat.{ℕ}
 use Rattle.bits.specs.Refusals.{numberOf, expectedOf, actualOf}
@@ -8,7 +9,7 @@ use Rattle.dcch.specs.declared.Encoded.{Encoded}
 use Rattle.dcch.specs.declared.Decoded.{Decoded}
 use Rattle.dcch.specs.Blocks.{encodeAnswer, decodeAnswer}
 use Rattle.bts136.specs.declared.blocks.Block.{Block}
-use Rattle.bts136.specs.Words.{notWritten}
+use Rattle.bts136.specs.Words.{noWord, notWritten}
 use Rattle.bts136.specs.Blocks.{noBlock, flatDone, flatCorrected, FlatEncoded, FlatDecoded}
 
 pub refused-block : (why : Refusal) (n e a : ℕ) → n ≡ numberOf why → e ≡ expectedOf why → a ≡ actualOf why
@@ -18,6 +19,10 @@ refused-block why n e a en ee ea = cc
 pub refused-written : (why : Refusal) (n e a : ℕ) → n ≡ numberOf why → e ≡ expectedOf why → a ≡ actualOf why
     → record { refusal = n; expected = e; actual = a } ≡ notWritten why
 refused-written why n e a en ee ea = cc
+
+pub refused-word : (why : Refusal) (n e a : ℕ) → n ≡ numberOf why → e ≡ expectedOf why → a ≡ actualOf why
+    → record { refusal = n; expected = e; actual = a; continuation = false; message = 0; corrected = 0; observed = 0 } ≡ noWord why
+refused-word why n e a en ee ea = cc
 
 -- the mode that a flag names
 pub encoded-flat : (Call : CrcMode → Encoded → Type 0) {r : Block} {given named : CrcMode} (answer : Encoded) → given ≡ named → Call given answer

@@ -1,15 +1,18 @@
 // FACCH words and the slots that carry them.
+use bits::Refusal;
 use bits::actual;
 use bits::expected;
 use bits::number;
+use facch::Decoded;
 use facch::WordHalf;
 use facch::Wrote;
 ghost use mathlib.Core.Path.{_≡_};
 ghost use Rattle.facch.specs.Calls.{wroteAnswer};
+ghost use Rattle.facch.specs.Decoding.{Decoding, decodeAnswer, lentDecode, lentErased};
 ghost use Rattle.facch.specs.Wire.{Deinterleaving, Interleaving, Observing};
 ghost use Rattle.facch.specs.Words.{Encoding};
 ghost use Rattle.facch.specs.declared.WordHalf.the-variants.{End, Start};
-ghost use Rattle.bts136.specs.Words.{FlatWrote, flatWrote};
+ghost use Rattle.bts136.specs.Words.{FlatDecoded, FlatWrote, flatContent, flatWrote, noWord};
 
 // expected and actual are those of a refusal for length.
 #[repr(C)]
@@ -82,4 +85,66 @@ pub extern "C" fn bts136_facch_observe_end(slot: &[u8], coded: &mut [u8]) -> Wri
     ensures { λ r. ⌜ FlatWrote (Observing (now (slot .entry)) End (now (coded .entry)) (now (coded .exit))) r ⌝ }
 {
     flat_wrote(facch::observe_half(slot, WordHalf::End, coded))
+}
+
+// What is beside the refusal is that of an accepted word; expected and actual are those of a refusal for length.
+#[repr(C)]
+pub struct Word {
+    pub refusal: u8,
+    pub expected: usize,
+    pub actual: usize,
+    pub continuation: bool,
+    pub message: u64,
+    pub corrected: u16,
+    pub observed: u16,
+}
+
+fn no_word(why: Refusal) -> Word
+    ensures { λ r. ⌜ r ≡ noWord why ⌝ }
+{
+    Word {
+        refusal: number(why),
+        expected: expected(why),
+        actual: actual(why),
+        continuation: false,
+        message: 0,
+        corrected: 0,
+        observed: 0,
+    }
+}
+
+fn flat_decoded(answer: Decoded) -> Word
+    ensures { λ r. ⌜ r ≡ flatContent (decodeAnswer answer) ⌝ }
+{
+    match answer {
+        Decoded::Accepted {
+            continuation,
+            message,
+            corrected,
+            observed,
+        } => Word {
+            refusal: 0,
+            expected: 0,
+            actual: 0,
+            continuation,
+            message,
+            corrected,
+            observed,
+        },
+        Decoded::Refused(why) => no_word(why),
+    }
+}
+
+#[no_mangle]
+pub extern "C" fn bts136_facch_decode(coded: &[u8], dvcc: u8) -> Word
+    ensures { λ r. ⌜ FlatDecoded (Decoding (lentDecode (now (coded .entry))) (now (coded .entry)) dvcc) r ⌝ }
+{
+    flat_decoded(facch::decode(coded, dvcc))
+}
+
+#[no_mangle]
+pub extern "C" fn bts136_facch_decode_erased(coded: &[u8], dvcc: u8) -> Word
+    ensures { λ r. ⌜ FlatDecoded (Decoding (lentErased (now (coded .entry))) (now (coded .entry)) dvcc) r ⌝ }
+{
+    flat_decoded(facch::decode_erased(coded, dvcc))
 }
