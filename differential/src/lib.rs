@@ -12,6 +12,7 @@ pub mod port_facch;
 pub mod port_soft;
 pub mod prng;
 pub mod reference;
+pub mod reference_facch;
 pub mod reference_soft;
 pub mod reliabilities;
 pub mod tally;

@@ -24,7 +24,38 @@ pub const fn length(expected: usize, actual: usize) -> Written {
     }
 }
 
+/// A word decoded: what is beside the refusal, and with refusal 1 the length that was expected and
+/// the one that came.
+#[repr(C)]
+#[derive(Clone, Copy, Debug, PartialEq, Eq)]
+pub struct Word {
+    pub refusal: u8,
+    pub expected: usize,
+    pub actual: usize,
+    pub continuation: bool,
+    /// 48 bits, the first highest.
+    pub message: u64,
+    pub corrected: u16,
+    pub observed: u16,
+}
+
+impl Word {
+    pub const fn refused(refusal: u8) -> Self {
+        Word {
+            refusal,
+            expected: 0,
+            actual: 0,
+            continuation: false,
+            message: 0,
+            corrected: 0,
+            observed: 0,
+        }
+    }
+}
+
 unsafe extern "C" {
+    fn bts136_facch_decode(coded: *const u8, coded_len: usize, dvcc: u8) -> Word;
+    fn bts136_facch_decode_erased(coded: *const u8, coded_len: usize, dvcc: u8) -> Word;
     fn bts136_facch_encode(
         continuation: bool,
         message: u64,
@@ -90,4 +121,14 @@ pub fn observe(end: bool, slot: &[u8], coded: &mut [u8]) -> Written {
         bts136_facch_observe_start
     };
     unsafe { call(slot.as_ptr(), slot.len(), out, out_len) }
+}
+
+/// Bytes 0 and 1.
+pub fn decode(coded: &[u8], dvcc: u8) -> Word {
+    unsafe { bts136_facch_decode(coded.as_ptr(), coded.len(), dvcc) }
+}
+
+/// Bytes 0, 1 and 2, which is an unobserved bit.
+pub fn decode_erased(coded: &[u8], dvcc: u8) -> Word {
+    unsafe { bts136_facch_decode_erased(coded.as_ptr(), coded.len(), dvcc) }
 }

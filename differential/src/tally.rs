@@ -20,3 +20,12 @@ impl Tally {
         );
     }
 }
+
+/// That many, times the number in DIFFERENTIAL_SCALE where it is set: a longer run of the tests
+/// whose calls take the Rust milliseconds.
+pub fn scaled(count: usize) -> usize {
+    let scale = std::env::var("DIFFERENTIAL_SCALE").map_or(1, |text| {
+        text.parse().expect("DIFFERENTIAL_SCALE is a whole number")
+    });
+    count * scale
+}
