@@ -3,6 +3,8 @@
 //! are made before; what the Rust allocates in a call is its own.
 //!
 //! `bench list` prints the names, `bench NAME N` makes N calls of one, for an instruction counter.
+mod facch;
+
 use differential::blocks::{Ends, Kind, bytes, code, flip};
 use differential::channel::Channel;
 #[cfg(osmocore)]
@@ -54,14 +56,14 @@ fn stop(message: &str) -> ! {
 
 fn compare(cases: &mut [Case]) {
     println!(
-        "{:<28} {:<14} {:>10} {:>10} {:>10}",
+        "{:<31} {:<14} {:>10} {:>10} {:>10}",
         "case", "who", "least ns", "median ns", "over port"
     );
     for case in cases {
         let times = times(&mut case.contenders);
         for (contender, time) in case.contenders.iter().zip(&times) {
             println!(
-                "{:<28} {:<14} {:>10.1} {:>10.1} {:>10.2}",
+                "{:<31} {:<14} {:>10.1} {:>10.1} {:>10.2}",
                 case.name,
                 contender.name,
                 time.least,
@@ -116,6 +118,7 @@ fn cases() -> Vec<Case> {
     ] {
         cases.push(decode_soft(&mut p, what, sizes, kind));
     }
+    cases.extend(facch::cases(&mut p));
     cases
 }
 
