@@ -1,6 +1,6 @@
 -- Bits and bytes: reading bytes 0 and 1 as bits and writing them again. Assumes nothing.
 use mathlib.Core.Path.{_≡_, refl, sym, ap, ap₂, _∙_}
-use mathlib.Core.Bool.{Bool, true, false, cond, false≢true}
+use mathlib.Core.Bool.{Bool, true, false, cond, _&&_, false≢true}
 use mathlib.Core.List.{List, [], _∷_, _++_, map}
 use Prim.Native.Nat.{ℕ, zero, suc, _+_, _*_, _%_, _<_, _≤_}
 use native.Mathlib.Omega.{arith}
@@ -10,6 +10,7 @@ use lib.Dec.{eqb, ltb}
 use lib.ListN.{length, getD, take, drop, drop-of-length-le}
 use lib.Seq.{drop-cons}
 use borrow.Author.Tests.{ltb-true, lt-ltb, le-ltb}
+use Rattle.bits.proofs.Passing.{Tests}
 use Rattle.bits.specs.Bits.{byte, bit, bytes, bits, allBinary, differ}
 
 -- ---- one bit
@@ -117,28 +118,14 @@ differ-other false true n = refl
 differ-other true false n = refl
 differ-other true true n = absurd (n refl)
 
--- ---- the loop of `all_binary`: the first k bytes are 0 or 1
-pub record Scanning (s : List ℕ) (k : ℕ) : Type 0 where
-  pub low : k ≤ length s
-  pub rest : allBinary s ≡ allBinary (drop k s)
-
-module _ {s : List ℕ} {k : ℕ} (i : Scanning s k) where
-  at : k < length s → allBinary s ≡ allBinary (getD s k 0 ∷ drop (suc k) s)
-  at h = i .rest ∙ ap allBinary (drop-cons s k 0 h)
-
-  pub scanning-more : k < length s → getD s k 0 ≤ 1 → Scanning s (k + 1)
-  scanning-more h b =
-      record {
-        low = omega arith;
-        rest = at h ∙ binary-cons (getD s k 0) (drop (suc k) s) (omega arith) ∙ ap (λ (n : ℕ). allBinary (drop n s)) (sym (add-one k));
-      }
-
-  pub scanning-stops : k < length s → 1 < getD s k 0 → false ≡ allBinary s
-  scanning-stops h b = sym (at h ∙ not-binary (getD s k 0) (drop (suc k) s) b)
-
-  pub scanning-done : length s ≤ k → true ≡ allBinary s
-  unfolding allBinary
-  scanning-done h = sym (i .rest ∙ ap allBinary (drop-of-length-le s h))
+-- ---- as a test of each byte
+pub binary-tests : Tests allBinary (λ x. ltb x 2)
+unfolding allBinary
+binary-tests = record { none = refl; one = λ x l. cond-and (ltb x 2) (allBinary l) }
+  where
+    cond-and : (a b : Bool) → cond a b false ≡ (a && b)
+    cond-and true b = refl
+    cond-and false b = refl
 
 -- ---- parts of a list
 pub bits-take : (n : ℕ) (l : List ℕ) → bits (take n l) ≡ take n (bits l)

@@ -3,6 +3,7 @@ pub mod Tested
 pub mod Listed
 pub mod Permuted
 pub mod Filled
+pub mod Passing
 pub mod LentPart
 pub mod Ring
 pub mod Binary

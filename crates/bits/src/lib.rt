@@ -1,6 +1,6 @@
 // Bits as bytes 0 and 1, numbers as bits, and the refusals that every crate answers with. The contracts cite specs/.
 ghost use mathlib.Core.Path.{_≡_};
-ghost use mathlib.Core.Bool.{true};
+ghost use mathlib.Core.Bool.{true, _&&_};
 ghost use Prim.Native.Nat.{_<_, _≤_};
 ghost use lib.ListN.{length};
 ghost use Rattle.bits.specs.Bits.{allBinary, bit, bits, bytes, differ, disagreements};
@@ -124,16 +124,22 @@ pub fn wide(x: u8) -> usize
     x as usize
 }
 
+// Both, with no way out between: a loop of tests that does not end early is vectorised.
+pub fn both(a: bool, b: bool) -> bool
+    ensures { λ r. ⌜ r ≡ (a && b) ⌝ }
+{
+    if a { b } else { false }
+}
+
 // Whether every byte is 0 or 1.
 pub fn all_binary(s: &[u8]) -> bool
     ensures { λ r. ⌜ r ≡ allBinary (now (s .entry)) ⌝ }
 {
+    let mut binary = true;
     for i in 0..s.len() {
-        if 1 < s[i] {
-            return false;
-        }
+        binary = both(binary, s[i] < 2);
     }
-    true
+    binary
 }
 
 // The number that bits write, the first highest.

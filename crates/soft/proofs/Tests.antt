@@ -4,15 +4,14 @@ use mathlib.Core.Bool.{Bool, true, false, true≢false, false≢true, _&&_, _||_
 use mathlib.Core.List.{List, [], _∷_}
 use Prim.Native.Nat.{ℕ, zero, suc, _+_, _*_, _^_, _≤_, _<_}
 use native.Mathlib.Nat.{lt-irrefl, mul-pos, zero-lt-suc, mul-one, one-mul, zero-mul, not-suc-le-zero, le-of-suc-le-suc, pow-succ'}
-use native.Mathlib.Numerals.{add-one}
 use native.Mathlib.Omega.{arith}
 use lib.Pow.{pow-pos}
 use lib.IntN.{ℤ, pos, negsuc}
 use lib.Dec.{T, ltb, eqb, eqb→eq, lt→ltb, ltb→lt}
-use lib.ListN.{length, getD, drop, drop-of-length-le}
-use lib.Seq.{drop-cons}
+use lib.ListN.{length, getD}
 use lib.Ieee.{Float, nan, inf, fin, Format, up, down, neg, lt, eq, fits}
 use lib.Ieee.Fits.{up-pos}
+use Rattle.bits.proofs.Passing.{Tests}
 use Rattle.soft.specs.Reliability.{zeroF, finite, allFinite, magnitude}
 
 -- ---- between the infinities
@@ -84,38 +83,10 @@ abs-positive (inf true) h k = absurd (true≢false h)
 abs-positive (fin false m e) h k = refl
 abs-positive (fin true m e) h k = absurd (not-both (m * up e * 1) (0 * 1 * down e) (zero-mul (down e)) h k)
 
--- ---- the loop of `all_finite`: r says whether the values below k are finite
-pub record Scanning (l : List Float) (r : Bool) (k : ℕ) : Type 0 where
-  pub low : k ≤ length l
-  pub rest : allFinite l ≡ (r && allFinite (drop k l))
-
-pub scanning-none : (l : List Float) → Scanning l true 0
-scanning-none l = record { low = omega arith; rest = refl }
-
-finite-at : (l : List Float) (i : ℕ) → i < length l → allFinite (drop i l) ≡ (finite (getD l i nan) && allFinite (drop (i + 1) l))
+-- ---- as a test of each value
+pub finite-tests : Tests allFinite finite
 unfolding allFinite
-finite-at l i h = ap allFinite (drop-cons l i nan h) ∙ ap (λ (k : ℕ). finite (getD l i nan) && allFinite (drop k l)) (sym (add-one i))
-
-and-assoc : (a b c : Bool) → (a && (b && c)) ≡ ((a && b) && c)
-and-assoc true b c = refl
-and-assoc false b c = refl
-
-and-true : (a : Bool) → (a && true) ≡ a
-and-true true = refl
-and-true false = refl
-
-module _ {l : List Float} {r : Bool} {k : ℕ} (i : Scanning l r k) where
-  pub scanning-more : {q s : Bool} → k < length l → q ≡ finite (getD l k nan) → s ≡ (r && q) → Scanning l s (k + 1)
-  scanning-more {q} {s} h e f =
-      record {
-        low = omega arith;
-        rest = i .rest ∙ ap (λ (t : Bool). r && t) (finite-at l k h ∙ ap (λ (t : Bool). t && allFinite (drop (k + 1) l)) (sym e))
-            ∙ and-assoc r q _ ∙ ap (λ (t : Bool). t && allFinite (drop (k + 1) l)) (sym f);
-      }
-
-  pub scanning-done : length l ≤ k → r ≡ allFinite l
-  unfolding allFinite
-  scanning-done h = sym (i .rest ∙ ap (λ (t : List Float). r && allFinite t) (drop-of-length-le l h) ∙ and-true r)
+finite-tests = record { none = refl; one = λ x l. refl }
 
 -- each of finite values is
 pub finite-each : (l : List Float) → allFinite l ≡ true → (i : ℕ) → i < length l → finite (getD l i nan) ≡ true

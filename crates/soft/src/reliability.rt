@@ -1,6 +1,7 @@
 // Tests on reliabilities, worked out: `is_finite` and `abs` of the Rust.
 // Ported from 136-bts, dcch.rs, and changed (see NOTICE).
-ghost use mathlib.Core.Bool.{false, _&&_};
+use bits::both;
+ghost use mathlib.Core.Bool.{false};
 ghost use mathlib.Core.Path.{_≡_};
 ghost use Prim.Native.Nat.{_≤_, _<_};
 ghost use lib.Ieee.{inf};
@@ -22,13 +23,7 @@ pub fn is_finite(x: f64) -> bool
     if x < top { -top < x } else { false }
 }
 
-fn both(a: bool, b: bool) -> bool
-    ensures { λ r. ⌜ r ≡ (a && b) ⌝ }
-{
-    if a { b } else { false }
-}
-
-// Tests every value: a loop that does not end early is vectorised.
+// Whether no value is a NaN or an infinity.
 pub fn all_finite(values: &[f64]) -> bool
     ensures { λ r. ⌜ r ≡ allFinite (now (values .entry)) ⌝ }
 {
