@@ -7,3 +7,6 @@ pub mod WordBits
 pub mod Biting
 pub mod Interleaved
 pub mod Halves
+pub mod Taps
+pub mod Shown
+pub mod Determined
