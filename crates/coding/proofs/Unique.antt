@@ -76,7 +76,7 @@ same-memory (more (more (more (more (more none))))) (more (more (more (more (mor
     cc (s .0, t .0, x .0, y .0, z .0)
 
 -- ---- from one memory the first output shows the input
-cancel : (a b c : Bool) → a ⊕ c ≡ b ⊕ c → a ≡ b
+pub cancel : (a b c : Bool) → a ⊕ c ≡ b ⊕ c → a ≡ b
 cancel false false c e = refl
 cancel true true c e = refl
 cancel false true false e = e

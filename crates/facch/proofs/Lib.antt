@@ -13,3 +13,6 @@ pub mod Received
 pub mod Rotating
 pub mod Turned
 pub mod Settling
+pub mod Taps
+pub mod Shown
+pub mod Determined
