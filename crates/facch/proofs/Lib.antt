@@ -11,3 +11,4 @@ pub mod Received
 pub mod Rotating
 pub mod Turned
 pub mod Settling
+pub mod OneAnswer
