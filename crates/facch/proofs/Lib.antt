@@ -12,3 +12,5 @@ pub mod Rotating
 pub mod Turned
 pub mod Settling
 pub mod OneAnswer
+pub mod OneWord
+pub mod RoundTrip
