@@ -1,13 +1,14 @@
 -- The contract of a decoding settles its answer: two answers that meet it are one. Assumes nothing.
 use mathlib.Core.Path.{_≡_, refl, sym, ap, subst, _∙_}
-use mathlib.Core.Bool.{Bool, true, false}
+use mathlib.Core.Bool.{Bool, true, false, cond}
 use mathlib.Core.List.{List}
 use Prim.Native.Nat.{ℕ, _<_}
 use native.Mathlib.Decide.{decLt, ℕ-discrete}
 use native.Mathlib.Omega.{arith}
 use lib.ListN.{length}
 use Rattle.bits.specs.Numbers.{packed}
-use Rattle.bits.specs.Refusals.{Answer, accepted, pending, rejected, refused, numberOf}
+use Rattle.bits.specs.Bits.{allBinary}
+use Rattle.bits.specs.Refusals.{Answer, accepted, pending, rejected, refused, numberOf, firstOf, exactOf, binaryOf}
 use Rattle.bits.specs.declared.Lent.{Lent}
 use Rattle.bits.specs.declared.Lent.the-variants.{Fine, Refused}
 use Rattle.bits.specs.declared.Refusal.the-variants as refusal
@@ -15,7 +16,8 @@ use Rattle.bits.proofs.Packed.{packed-one}
 use Rattle.trellis.specs.Search.{Ambiguous}
 use Rattle.trellis.specs.Words.{OfLength}
 use Rattle.trellis.proofs.Searching.{alone-unique}
-use Rattle.facch.specs.Decoding.{Content, observedCount, weight, sound, Finished, Settled, Answered, Decoding}
+use Rattle.facch.specs.Decoding.{Content, observedCount, weight, erasableOf, lentErased, lentDecode, sound, Finished, Settled, Answered, Decoding}
+use Rattle.facch.proofs.Received.{binary-erasable}
 
 -- bits of one length are the same or not
 same-or-not : (u w : List Bool) → length u ≡ length w → Dec (u ≡ w)
@@ -74,3 +76,11 @@ module _ {received : List ℕ} {dvcc : ℕ} {a b : Answer Content} where
 pub one-answer : (lent : Lent) {received : List ℕ} {dvcc : ℕ} {a b : Answer Content} → Decoding lent received dvcc a → Decoding lent received dvcc b → a ≡ b
 one-answer Fine p q = one-answered (p .answered refl) (q .answered refl)
 one-answer (Refused why) p q = p .declined why refl ∙ sym (q .declined why refl)
+
+-- `decode` answers bits as `decode_erased` does
+pub same-calls : {coded : List ℕ} {dvcc : ℕ} {a b : Answer Content} → allBinary coded ≡ true → Decoding (lentDecode coded) coded dvcc a → Decoding (lentErased coded) coded dvcc b → a ≡ b
+same-calls {coded} {dvcc} {a} e p q =
+    let binary : binaryOf coded ≡ Fine = ap (λ (t : Bool). cond t Fine (Refused refusal.Symbol)) e in
+    let erasable : erasableOf coded ≡ Fine = ap (λ (t : Bool). cond t Fine (Refused refusal.Symbol)) (binary-erasable coded e) in
+    let same : lentDecode coded ≡ lentErased coded = ap (firstOf (exactOf 260 (length coded))) (binary ∙ sym erasable) in
+    one-answer (lentErased coded) (subst (λ (l : Lent). Decoding l coded dvcc a) same p) q

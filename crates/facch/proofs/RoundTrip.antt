@@ -6,7 +6,7 @@ use mathlib.Core.List.{List, [], _∷_, _++_, reverse}
 use Prim.Native.Nat.{ℕ, suc, _+_, _^_, _≤_, _<_}
 use native.Mathlib.Omega.{arith}
 use lib.Dec.{eqb}
-use lib.ListN.{length, take, drop, length-append, length-drop, length-map}
+use lib.ListN.{length, take, drop, length-append, length-drop, length-map, replicate}
 use lib.Seq.{length-take-le, take-at, drop-at, take-all}
 use borrow.Author.Tests.{eq-eqb, lt-ltb}
 use Rattle.bits.specs.Bits.{byte, bytes, differ, tally, disagreements}
@@ -18,8 +18,8 @@ use Rattle.bits.specs.declared.Refusal.the-variants.{Symbol}
 use Rattle.bits.proofs.Binary.{binary-bytes}
 use Rattle.bits.proofs.Packed.{packed-unpacked-below, unpacked-length}
 use Rattle.bits.proofs.Tally.{disagreements-self, disagreements-none}
-use Rattle.coding.specs.Codes.{coded, facch}
-use Rattle.coding.specs.Checksums.{checksumOf}
+use Rattle.coding.specs.Codes.{tapped, coded, facch}
+use Rattle.coding.specs.Checksums.{checksumOf, divided, added}
 use Rattle.coding.specs.declared.checksum.CrcMode.the-variants.{Addressed}
 use Rattle.coding.proofs.Coded.{coded-length}
 use Rattle.coding.proofs.Answers.{checksum-below}
@@ -165,3 +165,14 @@ module _ (continuation : Bool) (message dvcc : ℕ) where
     round-trip-erased {answer} d =
         own-bits (lentErased (bytes (tailBiting (wordOf continuation message dvcc)))) (fine-erased (wordOf continuation message dvcc) (word-length continuation message dvcc)) h
         (subst (λ (l : List ℕ). Decoding (lentErased l) l dvcc answer) written d)
+
+-- ---- document 01: 260 zeros under the colour code 0 are a zero message
+zeros : bytes (tailBiting (wordOf false 0 0)) ≡ replicate 260 0
+unfolding tailBiting coded tapped wordOf checksumOf divided added packed unpacked
+zeros = refl
+
+pub zero-message : {answer : Answer Content} → Decoding (lentDecode (replicate 260 0)) (replicate 260 0) 0 answer
+    → answer ≡ accepted (record { continuation = false; message = 0; corrected = 0; observed = 260 })
+zero-message {answer} d =
+    own-bits false 0 0 (lentDecode (bytes (tailBiting (wordOf false 0 0)))) (fine-decode (wordOf false 0 0) (word-length false 0 0)) (omega arith)
+    (subst (λ (l : List ℕ). Decoding (lentDecode l) l 0 answer) (sym zeros) d)
