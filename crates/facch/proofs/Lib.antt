@@ -16,3 +16,6 @@ pub mod Settling
 pub mod Taps
 pub mod Shown
 pub mod Determined
+pub mod OneAnswer
+pub mod OneWord
+pub mod RoundTrip

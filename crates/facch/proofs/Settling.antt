@@ -67,6 +67,26 @@ module _ (word : List ℕ) (size : length word ≡ 65) (binary : allBinary word 
           spoilt = λ s. absurd (false≢true (sym s ∙ t));
         }
 
+-- ---- no other answer is Ambiguous
+never : {A : Type 0} {answer other : Answer Content} → answer ≡ refused refusal.Ambiguous → answer ≡ other → (other ≡ refused refusal.Ambiguous → ⊥) → A
+never e f n = absurd (n (sym f ∙ e))
+
+not-crc : _≡_ {A = Answer Content} (refused refusal.Crc) (refused refusal.Ambiguous) → ⊥
+not-crc e = let z : _≡_ {A = ℕ} 0 1 = cc in omega arith
+
+not-scarce : _≡_ {A = Answer Content} (refused refusal.InsufficientObservations) (refused refusal.Ambiguous) → ⊥
+not-scarce e = let z : _≡_ {A = ℕ} 0 1 = cc in omega arith
+
+not-accepted : (x : Content) → _≡_ {A = Answer Content} (accepted x) (refused refusal.Ambiguous) → ⊥
+not-accepted x e = let z : _≡_ {A = ℕ} 0 1 = cc in omega arith
+
+finished-clear : {w : List Bool} {corrected observed dvcc : ℕ} {answer : Answer Content} → Finished w corrected observed dvcc answer → answer ≡ refused refusal.Ambiguous → ⊥
+finished-clear {w} {corrected} {observed} {dvcc} {answer} f e = go (sound w dvcc) refl
+  where
+    go : (b : Bool) → sound w dvcc ≡ b → ⊥
+    go true t = never e (f .taken t) (not-accepted (contentOf w corrected observed))
+    go false t = never e (f .spoilt t) not-crc
+
 -- ---- `settle`
 module _ (received : List ℕ) (dvcc observed : ℕ) (eo : observed ≡ observedCount received) (many : 65 ≤ observed) {word : List ℕ} {r : Outcome} (s : Searched received word r) where
   pub asks-finish : (length word ≡ 65) × (allBinary word ≡ true)
@@ -77,6 +97,7 @@ module _ (received : List ℕ) (dvcc observed : ℕ) (eo : observed ≡ observed
       record {
         scarce = λ h. let z : ⊥ = omega arith in absurd z;
         unclear = λ h a. refl;
+        only-unclear = λ e. s .tied t;
         settled = λ h none. absurd (none (s .tied t));
       }
 
@@ -86,6 +107,7 @@ module _ (received : List ℕ) (dvcc observed : ℕ) (eo : observed ≡ observed
       record {
         scarce = λ h. let z : ⊥ = omega arith in absurd z;
         unclear = λ h a. absurd (false≢true (sym t ∙ s .alone a));
+        only-unclear = λ e. absurd (finished-clear f e);
         settled = λ h none. record {
           word = s .bits;
           nearest = s .nearest;
@@ -101,6 +123,7 @@ scarce-end received dvcc e h =
     record {
       scarce = λ l. refl;
       unclear = λ l a. let z : ⊥ = omega arith in absurd z;
+      only-unclear = λ q. absurd (not-scarce q);
       settled = λ l none. let z : ⊥ = omega arith in absurd z;
     }
 

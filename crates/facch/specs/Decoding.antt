@@ -83,10 +83,11 @@ pub record Settled (received : List ℕ) (dvcc : ℕ) (answer : Answer Content) 
   pub nearest : Nearest (OfLength 65) (weight received) word
   pub finished : Finished word (weight received word) (observedCount received) dvcc answer
 
--- too few observed bits; two nearest words; or one
+-- too few observed bits; two nearest words, and Ambiguous only then; or one
 pub record Answered (received : List ℕ) (dvcc : ℕ) (answer : Answer Content) : Type 0 where
   pub scarce : observedCount received < 65 → answer ≡ refused refusal.InsufficientObservations
   pub unclear : 65 ≤ observedCount received → Ambiguous (OfLength 65) (weight received) → answer ≡ refused refusal.Ambiguous
+  pub only-unclear : answer ≡ refused refusal.Ambiguous → Ambiguous (OfLength 65) (weight received)
   pub settled : 65 ≤ observedCount received → (Ambiguous (OfLength 65) (weight received) → ⊥) → Settled received dvcc answer
 
 pub record Decoding (lent : Lent) (received : List ℕ) (dvcc : ℕ) (answer : Answer Content) : Type 0 where

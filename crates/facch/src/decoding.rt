@@ -108,9 +108,9 @@ fn finish(word: &[u8], corrected: u16, observed: u16, dvcc: u8) -> Decoded
     let message = pack(&word[1..49]);
     Decoded::Accepted {
         continuation: word[0] == 1,
-        message: message,
-        corrected: corrected,
-        observed: observed,
+        message,
+        corrected,
+        observed,
     }
 }
 
