@@ -60,6 +60,10 @@ bits-append [] w = refl
 bits-append (b ∷ u) w = ap (λ (l : List Bool). bit b ∷ l) (bits-append u w)
 
 -- ---- allBinary
+pub cond-and : (a b : Bool) → cond a b false ≡ (a && b)
+cond-and true b = refl
+cond-and false b = refl
+
 pub cond-true : (a b : Bool) → cond a b false ≡ true → (a ≡ true) × (b ≡ true)
 cond-true true b e = (refl, e)
 cond-true false b e = absurd (false≢true e)
@@ -122,10 +126,6 @@ differ-other true true n = absurd (n refl)
 pub binary-tests : Tests allBinary (λ x. ltb x 2)
 unfolding allBinary
 binary-tests = record { none = refl; one = λ x l. cond-and (ltb x 2) (allBinary l) }
-  where
-    cond-and : (a b : Bool) → cond a b false ≡ (a && b)
-    cond-and true b = refl
-    cond-and false b = refl
 
 -- ---- parts of a list
 pub bits-take : (n : ℕ) (l : List ℕ) → bits (take n l) ≡ take n (bits l)

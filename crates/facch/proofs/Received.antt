@@ -21,35 +21,8 @@ use Rattle.tailbiting.proofs.Erasable.{erasable-cons, erasable-all}
 use Rattle.facch.specs.Decoding.{seen, observedCount, erasableOf, lentErased, lentDecode}
 
 -- ---- bytes 0, 1 and 2
-not-erasable : (x : ℕ) (l : List ℕ) → 2 < x → allErasable (x ∷ l) ≡ false
-unfolding allErasable
-not-erasable x l h = rw (le-ltb x 3 h)
-
 pub binary-erasable : (l : List ℕ) → allBinary l ≡ true → allErasable l ≡ true
 binary-erasable l e = erasable-all l (λ k h. omega (arith, binary-at l e k h))
-
--- the loop of `all_erasable`: the first k bytes are 0, 1 or 2
-pub record Scanning (s : List ℕ) (k : ℕ) : Type 0 where
-  pub low : k ≤ length s
-  pub rest : allErasable s ≡ allErasable (drop k s)
-
-module _ {s : List ℕ} {k : ℕ} (i : Scanning s k) where
-  at : k < length s → allErasable s ≡ allErasable (getD s k 0 ∷ drop (suc k) s)
-  at h = i .rest ∙ ap allErasable (drop-cons s k 0 h)
-
-  pub scanning-more : k < length s → getD s k 0 ≤ 2 → Scanning s (k + 1)
-  scanning-more h b =
-      record {
-        low = omega arith;
-        rest = at h ∙ erasable-cons (getD s k 0) (drop (suc k) s) (omega arith) ∙ ap (λ (n : ℕ). allErasable (drop n s)) (sym (add-one k));
-      }
-
-  pub scanning-stops : k < length s → 2 < getD s k 0 → false ≡ allErasable s
-  scanning-stops h b = sym (at h ∙ not-erasable (getD s k 0) (drop (suc k) s) b)
-
-  pub scanning-done : length s ≤ k → true ≡ allErasable s
-  unfolding allErasable
-  scanning-done h = sym (i .rest ∙ ap allErasable (drop-of-length-le s h))
 
 -- what Fine says of a call's bytes
 pub erased-fine : (coded : List ℕ) {l : Lent} → l ≡ lentErased coded → l ≡ Fine → (length coded ≡ 260) × (allErasable coded ≡ true)

@@ -3,6 +3,7 @@
 use crate::Decoded;
 use bits::Lent;
 use bits::Refusal;
+use bits::both;
 use bits::exact;
 use bits::first;
 use bits::only_bits;
@@ -24,12 +25,11 @@ ghost use Rattle.facch.specs.Decoding.{Answered, Decoding, Finished, Sea
 fn all_erasable(s: &[u8]) -> bool
     ensures { λ r. ⌜ r ≡ allErasable (now (s .entry)) ⌝ }
 {
+    let mut erasable = true;
     for i in 0..s.len() {
-        if 2 < s[i] {
-            return false;
-        }
+        erasable = both(erasable, s[i] < 3);
     }
-    true
+    erasable
 }
 
 // Refused where a byte is above 2.

@@ -9,7 +9,8 @@ use lib.Dec.{eqb, ltb}
 use lib.ListN.{length, getD}
 use borrow.Author.Tests.{ltb-true, lt-ltb, eq-eqb, ne-eqb}
 use Rattle.bits.specs.Bits.{bit, differ}
-use Rattle.bits.proofs.Binary.{cond-true, differ-le}
+use Rattle.bits.proofs.Binary.{cond-and, cond-true, differ-le}
+use Rattle.bits.proofs.Passing.{Tests}
 use Rattle.tailbiting.specs.TailBiting.{allErasable, erasedDiffer}
 
 -- ---- allErasable, by index
@@ -27,6 +28,11 @@ pub erasable-all : (l : List ℕ) → ((k : ℕ) → k < length l → getD l k 0
 unfolding allErasable
 erasable-all [] h = refl
 erasable-all (x ∷ l) h = erasable-cons x l (h 0 (omega arith)) ∙ erasable-all l (λ k b. h (suc k) (omega arith))
+
+-- as a test of each byte
+pub erasable-tests : Tests allErasable (λ x. ltb x 3)
+unfolding allErasable
+erasable-tests = record { none = refl; one = λ x l. cond-and (ltb x 3) (allErasable l) }
 
 -- ---- erasedDiffer
 pub erased-none : (sent : Bool) (received : ℕ) → received ≡ 2 → 0 ≡ erasedDiffer sent received
