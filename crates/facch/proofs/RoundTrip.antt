@@ -31,7 +31,7 @@ use Rattle.facch.specs.Words.{informationOf, wordOf, tailBiting, Encodin
 use Rattle.facch.specs.Decoding.{Content, seen, observedCount, weight, lentErased, lentDecode, contentOf, sound, Settled, Decoding}
 use Rattle.facch.proofs.WordBits.{word-length}
 use Rattle.facch.proofs.Received.{binary-erasable}
-use Rattle.facch.proofs.OneWord.{one-word}
+use Rattle.facch.proofs.Determined.{whole-determines}
 
 -- ---- a word that agrees with what was observed, where no other does
 module _ (received : List ℕ) (w : List Bool) (size : length w ≡ 65) (agrees : weight received w ≡ 0)
@@ -91,7 +91,7 @@ coded-size w size = length-map (tailBiting w) byte ∙ biting-length w size
 only-own : (w u : List Bool) → length w ≡ 65 → length u ≡ 65 → weight (bytes (tailBiting w)) u ≡ 0 → u ≡ w
 unfolding weight
 only-own w u hw hu e =
-    one-word u w hu hw
+    whole-determines u w hu hw
     (disagreements-none (tailBiting u) (tailBiting w) (biting-length u hu ∙ sym (biting-length w hw)) (sym (tally-bytes (tailBiting u) (tailBiting w)) ∙ e))
 
 pub fine-decode : (w : List Bool) → length w ≡ 65 → lentDecode (bytes (tailBiting w)) ≡ Fine
