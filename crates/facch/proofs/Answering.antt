@@ -52,7 +52,7 @@ pub two-bits : (a b : List ℕ) (room : ℕ) → lentTwo a b room ≡ Fine → (
 two-bits a b room fine = let t = two-tests a b room fine in (fine-binary a (t .3), fine-binary b (t .4))
 
 -- ---- and what gives Fine
-exact-fine : (n m : ℕ) → m ≡ n → exactOf n m ≡ Fine
+pub exact-fine : (n m : ℕ) → m ≡ n → exactOf n m ≡ Fine
 exact-fine n m e = rw (eq-eqb n m (sym e))
 
 binary-fine : (l : List ℕ) → allBinary l ≡ true → binaryOf l ≡ Fine

@@ -18,3 +18,4 @@ pub mod Shown
 pub mod Determined
 pub mod OneAnswer
 pub mod RoundTrip
+pub mod HalfTrip
