@@ -6,23 +6,24 @@ use Prim.Native.Nat.{ℕ, zero, suc, _+_, _^_, _<_}
 use native.Mathlib.Omega.{arith}
 use lib.Dec.{T}
 use lib.ListN.{length, getD, List·getD-map}
-use Rattle.bits.specs.Bits.{byte, bytes, tally}
-use Rattle.bits.specs.Refusals.{Answer, accepted, firstOf}
-use Rattle.bits.specs.declared.Lent.the-variants.{Fine, Refused}
-use Rattle.bits.specs.declared.Refusal.the-variants.{Symbol}
+use Rattle.bits.specs.Bits.{byte, bytes, allBinary, tally}
+use Rattle.bits.specs.Refusals.{Answer, accepted}
+use Rattle.bits.specs.declared.Lent.the-variants.{Fine}
 use Rattle.bits.proofs.Binary.{byte-below, differ-same, differ-none}
-use Rattle.tailbiting.specs.TailBiting.{allErasable, erasedDiffer}
+use Rattle.tailbiting.specs.TailBiting.{erasedDiffer}
 use Rattle.tailbiting.proofs.Erasable.{erasable-all, erased-none}
 use Rattle.facch.specs.declared.WordHalf.{WordHalf}
 use Rattle.facch.specs.declared.WordHalf.the-variants.{Start, End}
-use Rattle.facch.specs.Wire.{interleaved, observed}
-use Rattle.facch.specs.Words.{wordOf, tailBiting}
+use Rattle.facch.specs.declared.Wrote.{Wrote}
+use Rattle.facch.specs.Wire.{interleaved, observed, lentTwo, Interleaving, Observing}
+use Rattle.facch.specs.Words.{wordOf, tailBiting, Encoding}
 use Rattle.facch.specs.Decoding.{Content, observedCount, weight, lentErased, contentOf, Decoding}
 use Rattle.facch.proofs.WordBits.{word-length}
-use Rattle.facch.proofs.Answering.{exact-fine}
-use Rattle.facch.proofs.Halves.{carries, slotOf, observed-length, word-observed, half-count}
+use Rattle.facch.proofs.Answering.{fine-one}
+use Rattle.facch.proofs.Received.{fine-bytes}
+use Rattle.facch.proofs.Halves.{slotted, carries, slotOf, observed-length, word-observed, half-count}
 use Rattle.facch.proofs.Determined.{half-determines}
-use Rattle.facch.proofs.RoundTrip.{agreed, erased-byte, biting-length, sound-own, content-own}
+use Rattle.facch.proofs.RoundTrip.{agreed, erased-byte, biting-length, sound-own, content-own, written}
 
 -- ---- a sum that is 0
 module _ {A B : Type 0} (f : A → B → ℕ) (d : A) (e : B) where
@@ -67,12 +68,11 @@ module _ (half : WordHalf) (w : List Bool) (size : length w ≡ 65) (other : Lis
 
   fine : lentErased received ≡ Fine
   fine =
-      ap₂ firstOf (exact-fine 260 (length received) received-size)
-      (ap (λ (t : Bool). cond t Fine (Refused Symbol))
+      fine-bytes received received-size
       (erasable-all received
       (λ k h.
       let b : k < 260 = omega (arith, received-size) in
-      subst (λ (x : ℕ). x < 3) (sym (received-at k b)) (low (carries half k) (getD (tailBiting w) k false)))))
+      subst (λ (x : ℕ). x < 3) (sym (received-at k b)) (low (carries half k) (getD (tailBiting w) k false))))
 
   many : observedCount received ≡ 130
   many = half-count half received (λ place. byte (getD (tailBiting w) place false)) received-size (λ place h. byte-below (getD (tailBiting w) place false)) received-at
@@ -93,29 +93,53 @@ module _ (half : WordHalf) (w : List Bool) (size : length w ≡ 65) (other : Lis
       ∙ zero-at erasedDiffer false 0 (tailBiting u) received z place (omega (arith, biting-length u hu)) (omega (arith, received-size))))
 
 -- ---- the word of a message
-module _ (continuation : Bool) (message dvcc : ℕ) (h : message < 2 ^ 48) (other : List ℕ) where
-  abbrev coded : List ℕ
-  coded = bytes (tailBiting (wordOf continuation message dvcc))
+-- the message comes back
+abbrev pub Read : Bool → ℕ → Answer Content → Type 0
+Read continuation message answer = answer ≡ accepted (record { continuation = continuation; message = message; corrected = 0; observed = 130 })
 
-  half-trip : (half : WordHalf) {answer : Answer Content}
-      → Decoding (lentErased (observed half (slotOf half other coded))) (observed half (slotOf half other coded)) dvcc answer
-      → answer ≡ accepted (record { continuation = continuation; message = message; corrected = 0; observed = 130 })
-  half-trip half d =
+module _ (continuation : Bool) (message dvcc : ℕ) (h : message < 2 ^ 48) where
+  abbrev pub sent : List ℕ
+  sent = bytes (tailBiting (wordOf continuation message dvcc))
+
+  half-trip : (half : WordHalf) (other : List ℕ) {answer : Answer Content}
+      → Decoding (lentErased (observed half (slotOf half other sent))) (observed half (slotOf half other sent)) dvcc answer → Read continuation message answer
+  half-trip half other d =
       let w : List Bool = wordOf continuation message dvcc in
       let size : length w ≡ 65 = word-length continuation message dvcc in
-      let n : observedCount (observed half (slotOf half other coded)) ≡ 130 = many half w size other in
-      agreed (observed half (slotOf half other coded)) w size (agrees half w size other) (only half w size other) d (fine half w size other) (omega (arith, n))
+      let n : observedCount (observed half (slotOf half other sent)) ≡ 130 = many half w size other in
+      agreed (observed half (slotOf half other sent)) w size (agrees half w size other) (only half w size other) d (fine half w size other) (omega (arith, n))
       (sound-own continuation message dvcc)
       ∙ ap accepted (ap (λ (k : ℕ). contentOf w 0 k) n ∙ content-own continuation message dvcc 130 h)
 
   -- from the first of its slots, whatever word that finishes
-  pub start-trip : {answer : Answer Content}
-      → Decoding (lentErased (observed Start (interleaved 0 other coded))) (observed Start (interleaved 0 other coded)) dvcc answer
-      → answer ≡ accepted (record { continuation = continuation; message = message; corrected = 0; observed = 130 })
-  start-trip d = half-trip Start d
+  pub start-trip : (other : List ℕ) {answer : Answer Content}
+      → Decoding (lentErased (observed Start (interleaved 0 other sent))) (observed Start (interleaved 0 other sent)) dvcc answer → Read continuation message answer
+  start-trip other d = half-trip Start other d
 
   -- from the second, whatever word starts in it
-  pub end-trip : {answer : Answer Content}
-      → Decoding (lentErased (observed End (interleaved 0 coded other))) (observed End (interleaved 0 coded other)) dvcc answer
-      → answer ≡ accepted (record { continuation = continuation; message = message; corrected = 0; observed = 130 })
-  end-trip d = half-trip End d
+  pub end-trip : (other : List ℕ) {answer : Answer Content}
+      → Decoding (lentErased (observed End (interleaved 0 sent other))) (observed End (interleaved 0 sent other)) dvcc answer → Read continuation message answer
+  end-trip other d = half-trip End other d
+
+  -- ---- the same of the calls
+  observed-trip : (half : WordHalf) (other : List ℕ) (r : Wrote) {slot received₀ received : List ℕ} → length received₀ ≡ 260
+      → (slot ≡ slotOf half other sent) × (length slot ≡ 260) × (allBinary slot ≡ true) → Observing slot half received₀ received r
+      → {answer : Answer Content} → Decoding (lentErased received) received dvcc answer → Read continuation message answer
+  observed-trip half other r {slot} {received₀} room s o {answer} d =
+      half-trip half other
+      (subst (λ (l : List ℕ). Decoding (lentErased l) l dvcc answer)
+      (o .done (fine-one slot (length received₀) (s .1) room (s .2)) .1 ∙ ap (observed half) (s .0)) d)
+
+  module _ {coded₀ coded : List ℕ} (r : Wrote) (room : length coded₀ ≡ 260) (e : Encoding continuation message dvcc coded₀ coded r)
+      (other : List ℕ) (r′ r″ : Wrote) {slot₀ slot received₀ received : List ℕ} (room′ : length received₀ ≡ 260) where
+    pub calls-start-trip : lentTwo other coded (length slot₀) ≡ Fine → Interleaving other coded slot₀ slot r′ → Observing slot Start received₀ received r″
+        → {answer : Answer Content} → Decoding (lentErased received) received dvcc answer → Read continuation message answer
+    calls-start-trip f i o d =
+        let s = slotted other coded r′ f i in
+        observed-trip Start other r″ room′ (s .0 ∙ ap (interleaved 0 other) (written continuation message dvcc h r room e), s .1, s .2) o d
+
+    pub calls-end-trip : lentTwo coded other (length slot₀) ≡ Fine → Interleaving coded other slot₀ slot r′ → Observing slot End received₀ received r″
+        → {answer : Answer Content} → Decoding (lentErased received) received dvcc answer → Read continuation message answer
+    calls-end-trip f i o d =
+        let s = slotted coded other r′ f i in
+        observed-trip End other r″ room′ (s .0 ∙ ap (λ (l : List ℕ). interleaved 0 l other) (written continuation message dvcc h r room e), s .1, s .2) o d

@@ -49,20 +49,22 @@ module _ {A : Type 0} (d : A) where
           ap (λ (b : Bool). getD (cond b (interleaved d word next) (interleaved d previous word)) (wireOf place) d) e ∙ odd-row word place h previous e
 
 -- the same of the calls
+pub slotted : (previous current : List ℕ) (r : Wrote) {slot₀ slot : List ℕ} → lentTwo previous current (length slot₀) ≡ Fine → Interleaving previous current slot₀ slot r
+    → (slot ≡ interleaved 0 previous current) × (length slot ≡ 260) × (allBinary slot ≡ true)
+slotted previous current r {slot₀} {slot} f i =
+    let b = two-bits previous current (length slot₀) f in
+    let s : slot ≡ interleaved 0 previous current = i .done f .1 in
+    (s, ap length s ∙ interleaved-length 0 previous current, ap allBinary s ∙ binary-interleaved previous current (b .0) (b .1))
+
 pub calls-round-trip : (previous word next : List ℕ) (r r′ r″ : Wrote) {slot₀ slot slot₀′ slot′ coded₀ coded : List ℕ}
     → lentTwo previous word (length slot₀) ≡ Fine → lentTwo word next (length slot₀′) ≡ Fine → length coded₀ ≡ 260
     → Interleaving previous word slot₀ slot r → Interleaving word next slot₀′ slot′ r′ → Deinterleaving slot slot′ coded₀ coded r″
     → (wroteAnswer r″ ≡ accepted tt) × (coded ≡ word)
 calls-round-trip previous word next r r′ r″ {slot₀} {slot} {slot₀′} {slot′} {coded₀} {coded} f f′ room i i′ e =
-    let a = two-bits previous word (length slot₀) f in
-    let b = two-bits word next (length slot₀′) f′ in
-    let s : slot ≡ interleaved 0 previous word = i .done f .1 in
-    let s′ : slot′ ≡ interleaved 0 word next = i′ .done f′ .1 in
-    let fine : lentTwo slot slot′ (length coded₀) ≡ Fine =
-    fine-two slot slot′ (length coded₀) (ap length s ∙ interleaved-length 0 previous word) (ap length s′ ∙ interleaved-length 0 word next) room
-    (ap allBinary s ∙ binary-interleaved previous word (a .0) (a .1)) (ap allBinary s′ ∙ binary-interleaved word next (b .0) (b .1)) in
-    let d = e .done fine in
-    (d .0, d .1 ∙ ap₂ (deinterleaved 0) s s′ ∙ round-trip 0 previous word next (two-fine previous word (length slot₀) refl f .1))
+    let s = slotted previous word r f i in
+    let s′ = slotted word next r′ f′ i′ in
+    let d = e .done (fine-two slot slot′ (length coded₀) (s .1) (s′ .1) room (s .2) (s′ .2)) in
+    (d .0, d .1 ∙ ap₂ (deinterleaved 0) (s .0) (s′ .0) ∙ round-trip 0 previous word next (two-fine previous word (length slot₀) refl f .1))
 
 -- ---- one slot
 -- the first of a word's slots carries the places in its odd rows, the second those in its even rows

@@ -1,7 +1,7 @@
 -- `decode` of `encode` is the message, corrected 0: the word of the coded bits weighs nothing, and no other word has them.
 -- In general, where one word agrees with what was observed, that word is decoded. Assumes nothing.
 use mathlib.Core.Path.{_≡_, refl, sym, ap, ap₂, subst, _∙_}
-use mathlib.Core.Bool.{Bool, true, false, cond}
+use mathlib.Core.Bool.{Bool, true, false}
 use mathlib.Core.List.{List, [], _∷_, _++_, reverse}
 use Prim.Native.Nat.{ℕ, suc, _+_, _^_, _≤_, _<_}
 use native.Mathlib.Omega.{arith}
@@ -13,8 +13,7 @@ use Rattle.bits.specs.Bits.{byte, bytes, differ, tally, disagreements}
 use Rattle.bits.specs.Numbers.{packed, unpacked}
 use Rattle.bits.specs.Refusals.{Answer, accepted, firstOf}
 use Rattle.bits.specs.declared.Lent.{Lent}
-use Rattle.bits.specs.declared.Lent.the-variants.{Fine, Refused}
-use Rattle.bits.specs.declared.Refusal.the-variants.{Symbol}
+use Rattle.bits.specs.declared.Lent.the-variants.{Fine}
 use Rattle.bits.proofs.Binary.{binary-bytes}
 use Rattle.bits.proofs.Packed.{packed-unpacked-below, unpacked-length}
 use Rattle.bits.proofs.Tally.{disagreements-self, disagreements-none}
@@ -30,8 +29,8 @@ use Rattle.facch.specs.declared.Wrote.{Wrote}
 use Rattle.facch.specs.Words.{informationOf, wordOf, tailBiting, Encoding}
 use Rattle.facch.specs.Decoding.{Content, seen, observedCount, weight, lentErased, lentDecode, contentOf, sound, Settled, Decoding}
 use Rattle.facch.proofs.WordBits.{word-length}
-use Rattle.facch.proofs.Answering.{exact-fine}
-use Rattle.facch.proofs.Received.{binary-erasable}
+use Rattle.facch.proofs.Answering.{exact-fine, binary-fine}
+use Rattle.facch.proofs.Received.{binary-erasable, fine-bytes}
 use Rattle.facch.proofs.Determined.{whole-determines}
 
 -- ---- a word that agrees with what was observed, where no other does
@@ -93,14 +92,10 @@ only-own w u hw hu e =
     (disagreements-none (tailBiting u) (tailBiting w) (biting-length u hu ∙ sym (biting-length w hw)) (sym (tally-bytes (tailBiting u) (tailBiting w)) ∙ e))
 
 pub fine-decode : (w : List Bool) → length w ≡ 65 → lentDecode (bytes (tailBiting w)) ≡ Fine
-fine-decode w h =
-    ap₂ firstOf (exact-fine 260 (length (bytes (tailBiting w))) (coded-size w h))
-    (ap (λ (t : Bool). cond t Fine (Refused Symbol)) (binary-bytes (tailBiting w)))
+fine-decode w h = ap₂ firstOf (exact-fine 260 (length (bytes (tailBiting w))) (coded-size w h)) (binary-fine (bytes (tailBiting w)) (binary-bytes (tailBiting w)))
 
 pub fine-erased : (w : List Bool) → length w ≡ 65 → lentErased (bytes (tailBiting w)) ≡ Fine
-fine-erased w h =
-    ap₂ firstOf (exact-fine 260 (length (bytes (tailBiting w))) (coded-size w h))
-    (ap (λ (t : Bool). cond t Fine (Refused Symbol)) (binary-erasable (bytes (tailBiting w)) (binary-bytes (tailBiting w))))
+fine-erased w h = fine-bytes (bytes (tailBiting w)) (coded-size w h) (binary-erasable (bytes (tailBiting w)) (binary-bytes (tailBiting w)))
 
 -- ---- the word of a message
 module _ (continuation : Bool) (message dvcc : ℕ) where
