@@ -52,13 +52,16 @@ pub two-bits : (a b : List ℕ) (room : ℕ) → lentTwo a b room ≡ Fine → (
 two-bits a b room fine = let t = two-tests a b room fine in (fine-binary a (t .3), fine-binary b (t .4))
 
 -- ---- and what gives Fine
-exact-fine : (n m : ℕ) → m ≡ n → exactOf n m ≡ Fine
+pub exact-fine : (n m : ℕ) → m ≡ n → exactOf n m ≡ Fine
 exact-fine n m e = rw (eq-eqb n m (sym e))
 
-binary-fine : (l : List ℕ) → allBinary l ≡ true → binaryOf l ≡ Fine
+pub binary-fine : (l : List ℕ) → allBinary l ≡ true → binaryOf l ≡ Fine
 binary-fine l e = ap (λ (t : Bool). cond t Fine (Refused Symbol)) e
 
 pub fine-two : (a b : List ℕ) (room : ℕ) → length a ≡ 260 → length b ≡ 260 → room ≡ 260 → allBinary a ≡ true → allBinary b ≡ true → lentTwo a b room ≡ Fine
 fine-two a b room la lb lr ba bb =
     ap₂ firstOf (exact-fine 260 (length a) la)
     (ap₂ firstOf (exact-fine 260 (length b) lb) (ap₂ firstOf (exact-fine 260 room lr) (ap₂ firstOf (binary-fine a ba) (binary-fine b bb))))
+
+pub fine-one : (a : List ℕ) (room : ℕ) → length a ≡ 260 → room ≡ 260 → allBinary a ≡ true → lentOne a room ≡ Fine
+fine-one a room la lr ba = ap₂ firstOf (exact-fine 260 (length a) la) (ap₂ firstOf (exact-fine 260 room lr) (binary-fine a ba))

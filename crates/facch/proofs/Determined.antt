@@ -2,9 +2,9 @@
 use mathlib.Core.Path.{_≡_, refl, sym, ap, subst, _∙_}
 use mathlib.Core.Bool.{Bool, true, false, cond}
 use mathlib.Core.List.{List}
-use Prim.Native.Nat.{ℕ, zero, suc, _+_, _*_, _/_, _%_, _<_}
+use Prim.Native.Nat.{ℕ, zero, suc, _+_, _*_, _%_, _<_}
 use native.Mathlib.Omega.{arith}
-use lib.Dec.{T, eqb}
+use lib.Dec.{T}
 use lib.ListN.{length, getD, List·getD-map}
 use lib.Seq.{ext-getD}
 use Rattle.bits.specs.Bits.{byte, bytes}
@@ -13,17 +13,13 @@ use Rattle.bits.proofs.Binary.{byte-one}
 use Rattle.bits.proofs.Tested.{both, both-left, both-right, every, below}
 use Rattle.facch.specs.declared.WordHalf.{WordHalf}
 use Rattle.facch.specs.declared.WordHalf.the-variants.{Start, End}
-use Rattle.facch.specs.Wire.{table, placeOf, wireOf, byRow, interleaved, observed}
+use Rattle.facch.specs.Wire.{table, placeOf, wireOf, interleaved, observed}
 use Rattle.facch.specs.Words.{tailBiting}
-use Rattle.facch.proofs.Halves.{start-observed, end-observed}
+use Rattle.facch.proofs.Halves.{carries, slotOf, word-observed}
 use Rattle.facch.proofs.Taps.{circle, sends}
 use Rattle.facch.proofs.Shown.{Agree, SameSent, same-newest, same-five, grown}
 
--- the first of a word's slots carries the places in its odd rows, the second those in its even rows
-abbrev pub carries : WordHalf → ℕ → Bool
-carries Start place = byRow (wireOf place) false true
-carries End place = byRow (wireOf place) true false
-
+-- the places that a half carries
 abbrev pub Carried : WordHalf → ℕ → Type 0
 Carried half place = T (carries half place)
 
@@ -114,25 +110,20 @@ whole-determines u w hu hw e = half-determines Start u w hu hw (λ place h c. ap
 same-byte : (u w : List Bool) (place : ℕ) → getD (bytes u) place 0 ≡ getD (bytes w) place 0 → getD u place false ≡ getD w place false
 same-byte u w place e = byte-one _ _ (sym (List·getD-map byte u place false) ∙ e ∙ List·getD-map byte w place false)
 
-odd : (b : Bool) (m n : ℕ) → T (cond b false true) → cond b 2 m ≡ cond b 2 n → m ≡ n
-odd true m n t e = absurd t
-odd false m n t e = e
-
-even : (b : Bool) (m n : ℕ) → T (cond b true false) → cond b m 2 ≡ cond b n 2 → m ≡ n
-even true m n t e = e
-even false m n t e = absurd t
+given : (b : Bool) (m n : ℕ) → T b → cond b m 2 ≡ cond b n 2 → m ≡ n
+given true m n t e = e
+given false m n t e = absurd t
 
 module _ (u w : List Bool) (hu : length u ≡ 65) (hw : length w ≡ 65) (other other′ : List ℕ) where
-  pub start-determines : observed Start (interleaved 0 other (bytes (tailBiting u))) ≡ observed Start (interleaved 0 other′ (bytes (tailBiting w))) → u ≡ w
-  start-determines e =
-      half-determines Start u w hu hw
+  observed-determines : (half : WordHalf) → observed half (slotOf half other (bytes (tailBiting u))) ≡ observed half (slotOf half other′ (bytes (tailBiting w))) → u ≡ w
+  observed-determines half e =
+      half-determines half u w hu hw
       (λ place h c. same-byte (tailBiting u) (tailBiting w) place
-      (odd (eqb (wireOf place / 10 % 2) 0) _ _ c
-      (sym (start-observed (bytes (tailBiting u)) place h other) ∙ ap (λ (l : List ℕ). getD l place 0) e ∙ start-observed (bytes (tailBiting w)) place h other′)))
+      (given (carries half place) _ _ c
+      (sym (word-observed (bytes (tailBiting u)) place h half other) ∙ ap (λ (l : List ℕ). getD l place 0) e ∙ word-observed (bytes (tailBiting w)) place h half other′)))
+
+  pub start-determines : observed Start (interleaved 0 other (bytes (tailBiting u))) ≡ observed Start (interleaved 0 other′ (bytes (tailBiting w))) → u ≡ w
+  start-determines e = observed-determines Start e
 
   pub end-determines : observed End (interleaved 0 (bytes (tailBiting u)) other) ≡ observed End (interleaved 0 (bytes (tailBiting w)) other′) → u ≡ w
-  end-determines e =
-      half-determines End u w hu hw
-      (λ place h c. same-byte (tailBiting u) (tailBiting w) place
-      (even (eqb (wireOf place / 10 % 2) 0) _ _ c
-      (sym (end-observed (bytes (tailBiting u)) place h other) ∙ ap (λ (l : List ℕ). getD l place 0) e ∙ end-observed (bytes (tailBiting w)) place h other′)))
+  end-determines e = observed-determines End e

@@ -4,9 +4,8 @@ use mathlib.Core.Bool.{Bool, true, false, cond}
 use mathlib.Core.List.{List, [], _∷_}
 use Prim.Native.Nat.{ℕ, zero, suc, _+_, _/_, _%_, _<_}
 use native.Mathlib.Omega.{arith}
-use lib.Dec.{eqb, ltb}
+use lib.Dec.{eqb}
 use lib.ListN.{length, getD, replicate, getD-replicate}
-use borrow.Author.Tests.{lt-ltb}
 use Rattle.bits.specs.Bits.{byte, allBinary}
 use Rattle.bits.specs.Refusals.{accepted}
 use Rattle.bits.specs.Places.{listed, placeIn}
@@ -18,8 +17,10 @@ use Rattle.facch.specs.declared.WordHalf.{WordHalf}
 use Rattle.facch.specs.declared.WordHalf.the-variants.{Start, End}
 use Rattle.facch.specs.Wire.{table, placeOf, placeAt, wireOf, byRow, interleaved, deinterleaved, observed, lentTwo, Interleaving, Deinterleaving}
 use Rattle.facch.specs.Calls.{wroteAnswer}
+use Rattle.facch.specs.Decoding.{seen, observedCount}
 use Rattle.facch.proofs.Table.{wire-below, place-of-wire}
-use Rattle.facch.proofs.Interleaved.{interleaved-length, interleaved-at, deinterleaved-at, binary-interleaved}
+use Rattle.facch.proofs.Interleaved.{interleaved-length, deinterleaved-length, interleaved-at, deinterleaved-at, binary-interleaved}
+use Rattle.facch.proofs.Received.{not-seen, is-one}
 use Rattle.facch.proofs.Answering.{two-fine, two-bits, fine-two}
 
 module _ {A : Type 0} (d : A) where
@@ -48,80 +49,103 @@ module _ {A : Type 0} (d : A) where
           ap (λ (b : Bool). getD (cond b (interleaved d word next) (interleaved d previous word)) (wireOf place) d) e ∙ odd-row word place h previous e
 
 -- the same of the calls
+pub slotted : (previous current : List ℕ) (r : Wrote) {slot₀ slot : List ℕ} → lentTwo previous current (length slot₀) ≡ Fine → Interleaving previous current slot₀ slot r
+    → (slot ≡ interleaved 0 previous current) × (length slot ≡ 260) × (allBinary slot ≡ true)
+slotted previous current r {slot₀} {slot} f i =
+    let b = two-bits previous current (length slot₀) f in
+    let s : slot ≡ interleaved 0 previous current = i .done f .1 in
+    (s, ap length s ∙ interleaved-length 0 previous current, ap allBinary s ∙ binary-interleaved previous current (b .0) (b .1))
+
 pub calls-round-trip : (previous word next : List ℕ) (r r′ r″ : Wrote) {slot₀ slot slot₀′ slot′ coded₀ coded : List ℕ}
     → lentTwo previous word (length slot₀) ≡ Fine → lentTwo word next (length slot₀′) ≡ Fine → length coded₀ ≡ 260
     → Interleaving previous word slot₀ slot r → Interleaving word next slot₀′ slot′ r′ → Deinterleaving slot slot′ coded₀ coded r″
     → (wroteAnswer r″ ≡ accepted tt) × (coded ≡ word)
 calls-round-trip previous word next r r′ r″ {slot₀} {slot} {slot₀′} {slot′} {coded₀} {coded} f f′ room i i′ e =
-    let a = two-bits previous word (length slot₀) f in
-    let b = two-bits word next (length slot₀′) f′ in
-    let s : slot ≡ interleaved 0 previous word = i .done f .1 in
-    let s′ : slot′ ≡ interleaved 0 word next = i′ .done f′ .1 in
-    let fine : lentTwo slot slot′ (length coded₀) ≡ Fine =
-    fine-two slot slot′ (length coded₀) (ap length s ∙ interleaved-length 0 previous word) (ap length s′ ∙ interleaved-length 0 word next) room
-    (ap allBinary s ∙ binary-interleaved previous word (a .0) (a .1)) (ap allBinary s′ ∙ binary-interleaved word next (b .0) (b .1)) in
-    let d = e .done fine in
-    (d .0, d .1 ∙ ap₂ (deinterleaved 0) s s′ ∙ round-trip 0 previous word next (two-fine previous word (length slot₀) refl f .1))
+    let s = slotted previous word r f i in
+    let s′ = slotted word next r′ f′ i′ in
+    let d = e .done (fine-two slot slot′ (length coded₀) (s .1) (s′ .1) room (s .2) (s′ .2)) in
+    (d .0, d .1 ∙ ap₂ (deinterleaved 0) (s .0) (s′ .0) ∙ round-trip 0 previous word next (two-fine previous word (length slot₀) refl f .1))
 
 -- ---- one slot
-module _ (word : List ℕ) (place : ℕ) (h : place < 260) where
+-- the first of a word's slots carries the places in its odd rows, the second those in its even rows
+abbrev pub carries : WordHalf → ℕ → Bool
+carries Start place = byRow (wireOf place) false true
+carries End place = byRow (wireOf place) true false
+
+-- the slot that carries a half of a word, beside a half of another word
+abbrev pub slotOf : WordHalf → List ℕ → List ℕ → List ℕ
+slotOf Start other word = interleaved 0 other word
+slotOf End other word = interleaved 0 word other
+
+pub observed-length : (half : WordHalf) (slot : List ℕ) → length (observed half slot) ≡ 260
+observed-length Start slot = deinterleaved-length 0 slot (replicate 260 2)
+observed-length End slot = deinterleaved-length 0 (replicate 260 2) slot
+
+module _ (place : ℕ) (h : place < 260) where
   unread : getD {A = ℕ} (replicate 260 2) (wireOf place) 0 ≡ 2
   unread = getD-replicate {A = ℕ} 260 (wireOf place) 2 0 (wire-below place h)
 
-  pub start-observed : (previous : List ℕ) → getD (observed Start (interleaved 0 previous word)) place 0 ≡ byRow (wireOf place) 2 (getD word place 0)
-  start-observed previous =
-      deinterleaved-at 0 (interleaved 0 previous word) (replicate 260 2) place h ∙ go (eqb (wireOf place / 10 % 2) 0) refl
+  observed-at : (half : WordHalf) (slot : List ℕ) → getD (observed half slot) place 0 ≡ cond (carries half place) (getD slot (wireOf place) 0) 2
+  observed-at Start slot = deinterleaved-at 0 slot (replicate 260 2) place h ∙ go (eqb (wireOf place / 10 % 2) 0)
+    where
+      go : (b : Bool) → getD (cond b (replicate 260 2) slot) (wireOf place) 0 ≡ cond (cond b false true) (getD slot (wireOf place) 0) 2
+      go true = unread
+      go false = refl
+  observed-at End slot = deinterleaved-at 0 (replicate 260 2) slot place h ∙ go (eqb (wireOf place / 10 % 2) 0)
+    where
+      go : (b : Bool) → getD (cond b slot (replicate 260 2)) (wireOf place) 0 ≡ cond (cond b true false) (getD slot (wireOf place) 0) 2
+      go true = refl
+      go false = unread
+
+module _ (word : List ℕ) (place : ℕ) (h : place < 260) where
+  pub start-observed : (previous : List ℕ) → getD (observed Start (interleaved 0 previous word)) place 0 ≡ cond (carries Start place) (getD word place 0) 2
+  start-observed previous = observed-at place h Start (interleaved 0 previous word) ∙ go (eqb (wireOf place / 10 % 2) 0) refl
     where
       go : (b : Bool) → eqb (wireOf place / 10 % 2) 0 ≡ b
-          → getD (cond b (replicate 260 2) (interleaved 0 previous word)) (wireOf place) 0 ≡ cond b 2 (getD word place 0)
-      go true e = unread
+          → cond (cond b false true) (getD (interleaved 0 previous word) (wireOf place) 0) 2 ≡ cond (cond b false true) (getD word place 0) 2
+      go true e = refl
       go false e = odd-row 0 word place h previous e
 
-  pub end-observed : (next : List ℕ) → getD (observed End (interleaved 0 word next)) place 0 ≡ byRow (wireOf place) (getD word place 0) 2
-  end-observed next =
-      deinterleaved-at 0 (replicate 260 2) (interleaved 0 word next) place h ∙ go (eqb (wireOf place / 10 % 2) 0) refl
+  pub end-observed : (next : List ℕ) → getD (observed End (interleaved 0 word next)) place 0 ≡ cond (carries End place) (getD word place 0) 2
+  end-observed next = observed-at place h End (interleaved 0 word next) ∙ go (eqb (wireOf place / 10 % 2) 0) refl
     where
       go : (b : Bool) → eqb (wireOf place / 10 % 2) 0 ≡ b
-          → getD (cond b (interleaved 0 word next) (replicate 260 2)) (wireOf place) 0 ≡ cond b (getD word place 0) 2
+          → cond (cond b true false) (getD (interleaved 0 word next) (wireOf place) 0) 2 ≡ cond (cond b true false) (getD word place 0) 2
       go true e = even-row 0 word place h next e
-      go false e = unread
+      go false e = refl
 
--- ---- the number of observed bits: the bytes 0 and 1 of a list
-unfoldable pub seen : List ℕ → ℕ
-seen [] = 0
-seen (x ∷ l) = byte (ltb x 2) + seen l
+  pub word-observed : (half : WordHalf) (other : List ℕ) → getD (observed half (slotOf half other word)) place 0 ≡ cond (carries half place) (getD word place 0) 2
+  word-observed Start other = start-observed other
+  word-observed End other = end-observed other
 
+-- ---- the number of observed bits
 -- how many of the numbers below n pass a test
 among : ℕ → (ℕ → Bool) → ℕ
 among zero g = 0
 among (suc n) g = byte (g 0) + among n (λ i. g (suc i))
 
-seen-listed : (n : ℕ) (f : ℕ → ℕ) (g : ℕ → Bool) → ((i : ℕ) → i < n → ltb (f i) 2 ≡ g i) → seen (listed n f) ≡ among n g
-unfolding listed seen among
-seen-listed zero f g p = refl
-seen-listed (suc n) f g p =
-    ap₂ (λ (b : Bool) (m : ℕ). byte b + m) (p 0 (omega arith)) (seen-listed n (λ i. f (suc i)) (λ i. g (suc i)) (λ i h. p (suc i) (omega arith)))
+counted : (l : List ℕ) (g : ℕ → Bool) → ((k : ℕ) → k < length l → seen (getD l k 0) ≡ byte (g k)) → observedCount l ≡ among (length l) g
+unfolding observedCount among
+counted [] g p = refl
+counted (x ∷ l) g p = ap₂ (λ (m n : ℕ). m + n) (p 0 (omega arith)) (counted l (λ k. g (suc k)) (λ k h. p (suc k) (omega arith)))
 
-half-rows : (among 260 (λ place. byRow (wireOf place) true false) ≡ 130) × (among 260 (λ place. byRow (wireOf place) false true) ≡ 130)
+half-rows : (half : WordHalf) → among 260 (carries half) ≡ 130
 unfolding among table placeOf wireOf listed placeIn
-half-rows = (refl, refl)
+half-rows Start = refl
+half-rows End = refl
 
-module _ (slot : List ℕ) (binary : allBinary slot ≡ true) (size : length slot ≡ 260) where
-  observed-bit : (place : ℕ) → place < 260 → ltb (getD slot (wireOf place) 0) 2 ≡ true
-  observed-bit place h = lt-ltb _ _ (binary-at slot binary (wireOf place) (omega (arith, wire-below place h)))
+-- of bytes that are bits where a half is carried and 2 elsewhere
+pub half-count : (half : WordHalf) (l : List ℕ) (f : ℕ → ℕ) → length l ≡ 260 → ((place : ℕ) → place < 260 → f place < 2)
+    → ((place : ℕ) → place < 260 → getD l place 0 ≡ cond (carries half place) (f place) 2) → observedCount l ≡ 130
+half-count half l f size low at =
+    counted l (carries half) (λ k h. ap seen (at k (omega arith)) ∙ go (carries half k) (f k) (low k (omega arith)))
+    ∙ ap (λ (n : ℕ). among n (carries half)) size ∙ half-rows half
+  where
+    go : (b : Bool) (x : ℕ) → x < 2 → seen (cond b x 2) ≡ byte b
+    go true x h = sym (is-one x (λ e. omega arith))
+    go false x h = sym (not-seen 2 refl)
 
-  unobserved : (place : ℕ) → place < 260 → ltb (getD {A = ℕ} (replicate 260 2) (wireOf place) 0) 2 ≡ false
-  unobserved place h = ap (λ (x : ℕ). ltb x 2) (getD-replicate {A = ℕ} 260 (wireOf place) 2 0 (wire-below place h))
-
-  pub half-observed : (half : WordHalf) → seen (observed half slot) ≡ 130
-  unfolding deinterleaved
-  half-observed Start = seen-listed 260 _ (λ place. byRow (wireOf place) false true) (λ place h. go place h (eqb (wireOf place / 10 % 2) 0)) ∙ half-rows .1
-    where
-      go : (place : ℕ) → place < 260 → (b : Bool) → ltb (getD (cond b (replicate 260 2) slot) (wireOf place) 0) 2 ≡ cond b false true
-      go place h true = unobserved place h
-      go place h false = observed-bit place h
-  half-observed End = seen-listed 260 _ (λ place. byRow (wireOf place) true false) (λ place h. go place h (eqb (wireOf place / 10 % 2) 0)) ∙ half-rows .0
-    where
-      go : (place : ℕ) → place < 260 → (b : Bool) → ltb (getD (cond b slot (replicate 260 2)) (wireOf place) 0) 2 ≡ cond b true false
-      go place h true = observed-bit place h
-      go place h false = unobserved place h
+pub half-observed : (slot : List ℕ) → allBinary slot ≡ true → length slot ≡ 260 → (half : WordHalf) → observedCount (observed half slot) ≡ 130
+half-observed slot binary size half =
+    half-count half (observed half slot) (λ place. getD slot (wireOf place) 0) (observed-length half slot)
+    (λ place h. binary-at slot binary (wireOf place) (omega (arith, wire-below place h))) (λ place h. observed-at place h half slot)

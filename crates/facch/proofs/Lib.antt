@@ -17,5 +17,5 @@ pub mod Taps
 pub mod Shown
 pub mod Determined
 pub mod OneAnswer
-pub mod OneWord
 pub mod RoundTrip
+pub mod HalfTrip

@@ -1,6 +1,6 @@
 -- The bytes that were received: whether each is 0, 1 or 2, and how many are observed. Assumes nothing.
-use mathlib.Core.Path.{_≡_, sym, ap, _∙_}
-use mathlib.Core.Bool.{true, false}
+use mathlib.Core.Path.{_≡_, sym, ap, ap₂, _∙_}
+use mathlib.Core.Bool.{Bool, true, false, cond}
 use mathlib.Core.List.{List, _∷_}
 use Prim.Native.Nat.{ℕ, suc, _+_, _<_, _≤_}
 use native.Mathlib.Omega.{arith}
@@ -10,15 +10,16 @@ use lib.ListN.{length, getD, drop, drop-of-length-le}
 use lib.Seq.{drop-cons}
 use borrow.Author.Tests.{le-ltb, eq-eqb, ne-eqb}
 use Rattle.bits.specs.Bits.{allBinary}
-use Rattle.bits.specs.Refusals.{exactOf, binaryOf}
+use Rattle.bits.specs.Refusals.{firstOf, exactOf, binaryOf}
 use Rattle.bits.specs.declared.Lent.{Lent}
-use Rattle.bits.specs.declared.Lent.the-variants.{Fine}
+use Rattle.bits.specs.declared.Lent.the-variants.{Fine, Refused}
 use Rattle.bits.specs.declared.Refusal.the-variants.{Symbol}
 use Rattle.bits.proofs.Binary.{binary-at}
 use Rattle.bits.proofs.Refusing.{passed, fine-first, fine-exact, fine-binary}
 use Rattle.tailbiting.specs.TailBiting.{allErasable}
 use Rattle.tailbiting.proofs.Erasable.{erasable-cons, erasable-all}
 use Rattle.facch.specs.Decoding.{seen, observedCount, erasableOf, lentErased, lentDecode}
+use Rattle.facch.proofs.Answering.{exact-fine}
 
 -- ---- bytes 0, 1 and 2
 pub binary-erasable : (l : List ℕ) → allBinary l ≡ true → allErasable l ≡ true
@@ -34,6 +35,10 @@ pub decode-fine : (coded : List ℕ) {l : Lent} → l ≡ lentDecode coded → l
 decode-fine coded told fine =
     let p = fine-first (exactOf 260 (length coded)) (binaryOf coded) (sym told ∙ fine) in
     (sym (fine-exact 260 (length coded) (p .0)), binary-erasable coded (fine-binary coded (p .1)))
+
+-- and what gives Fine
+pub fine-bytes : (coded : List ℕ) → length coded ≡ 260 → allErasable coded ≡ true → lentErased coded ≡ Fine
+fine-bytes coded l e = ap₂ firstOf (exact-fine 260 (length coded) l) (ap (λ (t : Bool). cond t Fine (Refused Symbol)) e)
 
 -- ---- observed bytes
 pub not-seen : (x : ℕ) → x ≡ 2 → 0 ≡ seen x

@@ -1,7 +1,7 @@
 -- `decode` of `encode` is the message, corrected 0: the word of the coded bits weighs nothing, and no other word has them.
 -- In general, where one word agrees with what was observed, that word is decoded. Assumes nothing.
 use mathlib.Core.Path.{_≡_, refl, sym, ap, ap₂, subst, _∙_}
-use mathlib.Core.Bool.{Bool, true, false, cond}
+use mathlib.Core.Bool.{Bool, true, false}
 use mathlib.Core.List.{List, [], _∷_, _++_, reverse}
 use Prim.Native.Nat.{ℕ, suc, _+_, _^_, _≤_, _<_}
 use native.Mathlib.Omega.{arith}
@@ -11,10 +11,9 @@ use lib.Seq.{length-take-le, take-at, drop-at, take-all}
 use borrow.Author.Tests.{eq-eqb, lt-ltb}
 use Rattle.bits.specs.Bits.{byte, bytes, differ, tally, disagreements}
 use Rattle.bits.specs.Numbers.{packed, unpacked}
-use Rattle.bits.specs.Refusals.{Answer, accepted, firstOf, exactOf}
+use Rattle.bits.specs.Refusals.{Answer, accepted, firstOf}
 use Rattle.bits.specs.declared.Lent.{Lent}
-use Rattle.bits.specs.declared.Lent.the-variants.{Fine, Refused}
-use Rattle.bits.specs.declared.Refusal.the-variants.{Symbol}
+use Rattle.bits.specs.declared.Lent.the-variants.{Fine}
 use Rattle.bits.proofs.Binary.{binary-bytes}
 use Rattle.bits.proofs.Packed.{packed-unpacked-below, unpacked-length}
 use Rattle.bits.proofs.Tally.{disagreements-self, disagreements-none}
@@ -30,8 +29,9 @@ use Rattle.facch.specs.declared.Wrote.{Wrote}
 use Rattle.facch.specs.Words.{informationOf, wordOf, tailBiting, Encoding}
 use Rattle.facch.specs.Decoding.{Content, seen, observedCount, weight, lentErased, lentDecode, contentOf, sound, Settled, Decoding}
 use Rattle.facch.proofs.WordBits.{word-length}
-use Rattle.facch.proofs.Received.{binary-erasable}
-use Rattle.facch.proofs.OneWord.{one-word}
+use Rattle.facch.proofs.Answering.{exact-fine, binary-fine}
+use Rattle.facch.proofs.Received.{binary-erasable, fine-bytes}
+use Rattle.facch.proofs.Determined.{whole-determines}
 
 -- ---- a word that agrees with what was observed, where no other does
 module _ (received : List ℕ) (w : List Bool) (size : length w ≡ 65) (agrees : weight received w ≡ 0)
@@ -51,7 +51,7 @@ module _ (received : List ℕ) (w : List Bool) (size : length w ≡ 65) (agrees 
       ∙ ap₂ (λ (u : List Bool) (n : ℕ). accepted (contentOf u n (observedCount received))) e (ap (weight received) e ∙ agrees)
 
 -- ---- bits that are all observed
-erased-byte : (a b : Bool) → erasedDiffer a (byte b) ≡ differ a b
+pub erased-byte : (a b : Bool) → erasedDiffer a (byte b) ≡ differ a b
 unfolding erasedDiffer
 erased-byte false false = refl
 erased-byte false true = refl
@@ -70,12 +70,9 @@ all-observed [] = refl
 all-observed (false ∷ w) = let i : observedCount (bytes w) ≡ length w = all-observed w in omega arith
 all-observed (true ∷ w) = let i : observedCount (bytes w) ≡ length w = all-observed w in omega arith
 
-exact-fine : (n : ℕ) → n ≡ 260 → exactOf 260 n ≡ Fine
-exact-fine n e = rw (eq-eqb 260 n (sym e))
-
 -- ---- a word of 65 bits
 module _ (w : List Bool) (size : length w ≡ 65) where
-  biting-length : length (tailBiting w) ≡ 260
+  pub biting-length : length (tailBiting w) ≡ 260
   unfolding tailBiting
   biting-length =
       coded-length facch (reverse (take 5 w)) (drop 5 w ++ take 5 w)
@@ -91,18 +88,14 @@ coded-size w size = length-map (tailBiting w) byte ∙ biting-length w size
 only-own : (w u : List Bool) → length w ≡ 65 → length u ≡ 65 → weight (bytes (tailBiting w)) u ≡ 0 → u ≡ w
 unfolding weight
 only-own w u hw hu e =
-    one-word u w hu hw
+    whole-determines u w hu hw
     (disagreements-none (tailBiting u) (tailBiting w) (biting-length u hu ∙ sym (biting-length w hw)) (sym (tally-bytes (tailBiting u) (tailBiting w)) ∙ e))
 
 pub fine-decode : (w : List Bool) → length w ≡ 65 → lentDecode (bytes (tailBiting w)) ≡ Fine
-fine-decode w h =
-    ap₂ firstOf (exact-fine (length (bytes (tailBiting w))) (coded-size w h))
-    (ap (λ (t : Bool). cond t Fine (Refused Symbol)) (binary-bytes (tailBiting w)))
+fine-decode w h = ap₂ firstOf (exact-fine 260 (length (bytes (tailBiting w))) (coded-size w h)) (binary-fine (bytes (tailBiting w)) (binary-bytes (tailBiting w)))
 
 pub fine-erased : (w : List Bool) → length w ≡ 65 → lentErased (bytes (tailBiting w)) ≡ Fine
-fine-erased w h =
-    ap₂ firstOf (exact-fine (length (bytes (tailBiting w))) (coded-size w h))
-    (ap (λ (t : Bool). cond t Fine (Refused Symbol)) (binary-erasable (bytes (tailBiting w)) (binary-bytes (tailBiting w))))
+fine-erased w h = fine-bytes (bytes (tailBiting w)) (coded-size w h) (binary-erasable (bytes (tailBiting w)) (binary-bytes (tailBiting w)))
 
 -- ---- the word of a message
 module _ (continuation : Bool) (message dvcc : ℕ) where
@@ -129,7 +122,7 @@ module _ (continuation : Bool) (message dvcc : ℕ) where
       ∙ packed-unpacked-below 16 checked (checksum-below (informationOf continuation message) dvcc Addressed) in
       ap (λ (u : List Bool). eqb (packed (take 16 (drop 49 w))) (checksumOf u dvcc Addressed)) front ∙ eq-eqb (packed (take 16 (drop 49 w))) checked sent
 
-  content-own : (observed : ℕ) → message < 2 ^ 48
+  pub content-own : (observed : ℕ) → message < 2 ^ 48
       → contentOf (wordOf continuation message dvcc) 0 observed ≡ record { continuation = continuation; message = message; corrected = 0; observed = observed }
   unfolding contentOf wordOf
   content-own observed h =
@@ -149,8 +142,8 @@ module _ (continuation : Bool) (message dvcc : ℕ) where
       ∙ ap accepted (ap (λ (k : ℕ). contentOf w 0 k) n ∙ content-own 260 h)
 
   module _ (h : message < 2 ^ 48) {coded₀ coded : List ℕ} (r : Wrote) (room : length coded₀ ≡ 260) (e : Encoding continuation message dvcc coded₀ coded r) where
-    written : coded ≡ bytes (tailBiting (wordOf continuation message dvcc))
-    written = e .done (ap₂ firstOf (exact-fine (length coded₀) room) (rw (lt-ltb message (2 ^ 48) h))) .1
+    pub written : coded ≡ bytes (tailBiting (wordOf continuation message dvcc))
+    written = e .done (ap₂ firstOf (exact-fine 260 (length coded₀) room) (rw (lt-ltb message (2 ^ 48) h))) .1
 
     -- what `encode` writes, `decode` reads
     pub round-trip : {answer : Answer Content} → Decoding (lentDecode coded) coded dvcc answer
