@@ -10,3 +10,4 @@ pub mod Binary
 pub mod Packed
 pub mod Tally
 pub mod Refusing
+pub mod Writing

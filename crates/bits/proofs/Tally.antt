@@ -2,7 +2,7 @@
 use mathlib.Core.Path.{_≡_, refl, sym, ap, ap₂, _∙_}
 use mathlib.Core.Bool.{Bool}
 use mathlib.Core.List.{List, [], _∷_, _++_}
-use Prim.Native.Nat.{ℕ, suc, _+_, _<_, _≤_}
+use Prim.Native.Nat.{ℕ, zero, suc, _+_, _<_, _≤_}
 use native.Mathlib.Omega.{arith}
 use native.Mathlib.Nat.{zero-add, add-assoc}
 use native.Mathlib.Numerals.{add-one}
@@ -68,3 +68,18 @@ disagreements-none [] (b ∷ w) l e = let z : ⊥ = omega arith in absurd z
 disagreements-none (a ∷ u) [] l e = let z : ⊥ = omega arith in absurd z
 disagreements-none (a ∷ u) (b ∷ w) l e =
     ap₂ (λ (x : Bool) (r : List Bool). x ∷ r) (differ-none a b (omega arith)) (disagreements-none u w (omega arith) (omega arith))
+
+-- ---- a sum that is 0
+module _ {A B : Type 0} (f : A → B → ℕ) (d : A) (e : B) where
+  pub tally-zero : (xs : List A) (ys : List B) → ((k : ℕ) → k < length ys → f (getD xs k d) (getD ys k e) ≡ 0) → tally f xs ys ≡ 0
+  unfolding tally
+  tally-zero [] ys p = refl
+  tally-zero (x ∷ xs) [] p = refl
+  tally-zero (x ∷ xs) (y ∷ ys) p = ap₂ (λ (m n : ℕ). m + n) (p 0 (omega arith)) (tally-zero xs ys (λ k h. p (suc k) (omega arith)))
+
+  pub zero-at : (xs : List A) (ys : List B) → tally f xs ys ≡ 0 → (k : ℕ) → k < length xs → k < length ys → f (getD xs k d) (getD ys k e) ≡ 0
+  unfolding tally
+  zero-at [] ys z k h g = absurd (omega arith)
+  zero-at (x ∷ xs) [] z k h g = absurd (omega arith)
+  zero-at (x ∷ xs) (y ∷ ys) z zero h g = omega arith
+  zero-at (x ∷ xs) (y ∷ ys) z (suc k) h g = zero-at xs ys (omega arith) k (omega arith) (omega arith)

@@ -3,3 +3,4 @@ pub mod Bits
 pub mod Places
 pub mod Numbers
 pub mod Refusals
+pub mod Calls

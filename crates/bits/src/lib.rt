@@ -84,6 +84,12 @@ pub enum Lent {
     Refused(Refusal),
 }
 
+// What a call that writes bits answers.
+pub enum Wrote {
+    Done,
+    Refused(Refusal),
+}
+
 // The first refusal of two tests.
 pub fn first(earlier: Lent, later: Lent) -> Lent
     ensures { λ r. ⌜ r ≡ firstOf earlier later ⌝ }

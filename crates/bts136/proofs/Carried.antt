@@ -5,9 +5,10 @@ use Prim.Native.Nat.{ℕ}
 use Rattle.bits.specs.Refusals.{numberOf, expectedOf, actualOf}
 use Rattle.bits.specs.declared.Refusal.{Refusal}
 use Rattle.coding.specs.declared.checksum.CrcMode.{CrcMode}
-use Rattle.dcch.specs.declared.Encoded.{Encoded}
+use Rattle.bits.specs.declared.Wrote.{Wrote}
+use Rattle.bits.specs.Calls.{wroteAnswer}
 use Rattle.dcch.specs.declared.Decoded.{Decoded}
-use Rattle.dcch.specs.Blocks.{encodeAnswer, decodeAnswer}
+use Rattle.dcch.specs.Blocks.{decodeAnswer}
 use Rattle.bts136.specs.declared.blocks.Block.{Block}
 use Rattle.bts136.specs.Words.{noWord, notWritten}
 use Rattle.bts136.specs.Blocks.{noBlock, flatDone, flatCorrected, FlatEncoded, FlatDecoded}
@@ -25,8 +26,8 @@ pub refused-word : (why : Refusal) (n e a : ℕ) → n ≡ numberOf why → e �
 refused-word why n e a en ee ea = cc
 
 -- the mode that a flag names
-pub encoded-flat : (Call : CrcMode → Encoded → Type 0) {r : Block} {given named : CrcMode} (answer : Encoded) → given ≡ named → Call given answer
-    → r ≡ flatDone (encodeAnswer answer) → FlatEncoded (Call named) r
+pub encoded-flat : (Call : CrcMode → Wrote → Type 0) {r : Block} {given named : CrcMode} (answer : Wrote) → given ≡ named → Call given answer
+    → r ≡ flatDone (wroteAnswer answer) → FlatEncoded (Call named) r
 encoded-flat Call answer e h f = record { answer = answer; holds = subst (λ (m : CrcMode). Call m answer) e h; flat = f }
 
 pub decoded-flat : (Call : CrcMode → Decoded → Type 0) {r : Block} {given named : CrcMode} (answer : Decoded) → given ≡ named → Call given answer

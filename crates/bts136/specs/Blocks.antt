@@ -3,9 +3,10 @@ use mathlib.Core.Path.{_≡_}
 use Prim.Native.Nat.{ℕ}
 use Rattle.bits.specs.Refusals.{Answer, accepted, pending, rejected, refused, numberOf, expectedOf, actualOf}
 use Rattle.bits.specs.declared.Refusal.{Refusal}
-use Rattle.dcch.specs.declared.Encoded.{Encoded}
+use Rattle.bits.specs.declared.Wrote.{Wrote}
+use Rattle.bits.specs.Calls.{wroteAnswer}
 use Rattle.dcch.specs.declared.Decoded.{Decoded}
-use Rattle.dcch.specs.Blocks.{encodeAnswer, decodeAnswer}
+use Rattle.dcch.specs.Blocks.{decodeAnswer}
 use Rattle.bts136.specs.declared.blocks.Block.{Block}
 
 abbrev pub noBlock : Refusal → Block
@@ -25,10 +26,10 @@ flatDone (rejected why) = noBlock why
 flatDone (refused why) = noBlock why
 
 -- the answer of a call of `dcch`, of which Call says what it means, made flat
-pub record FlatEncoded (Call : Encoded → Type 0) (r : Block) : Type 0 where
-  pub answer : Encoded
+pub record FlatEncoded (Call : Wrote → Type 0) (r : Block) : Type 0 where
+  pub answer : Wrote
   pub holds : Call answer
-  pub flat : r ≡ flatDone (encodeAnswer answer)
+  pub flat : r ≡ flatDone (wroteAnswer answer)
 
 pub record FlatDecoded (Call : Decoded → Type 0) (r : Block) : Type 0 where
   pub answer : Decoded

@@ -3,8 +3,8 @@ use mathlib.Core.Path.{_≡_}
 use mathlib.Core.Bool.{false}
 use Rattle.bits.specs.Refusals.{Answer, accepted, pending, rejected, refused, numberOf, expectedOf, actualOf}
 use Rattle.bits.specs.declared.Refusal.{Refusal}
-use Rattle.facch.specs.declared.Wrote.{Wrote}
-use Rattle.facch.specs.Calls.{wroteAnswer}
+use Rattle.bits.specs.declared.Wrote.{Wrote}
+use Rattle.bits.specs.Calls.{wroteAnswer}
 use Rattle.facch.specs.Decoding.{Content}
 use Rattle.bts136.specs.declared.words.Written.{Written}
 use Rattle.bts136.specs.declared.words.Word.{Word}

@@ -1,13 +1,14 @@
 // DCCH blocks: a function for each format, since C has no enum of ours.
 use crate::mode_of;
+use bits::Wrote;
 use bits::actual;
 use bits::expected;
 use bits::number;
 use dcch::BlockFormat;
 use dcch::Decoded;
-use dcch::Encoded;
 ghost use mathlib.Core.Path.{_≡_};
-ghost use Rattle.dcch.specs.Blocks.{Decoding, Encoding, decodeAnswer, encodeAnswer};
+ghost use Rattle.dcch.specs.Blocks.{Decoding, Encoding, decodeAnswer};
+ghost use Rattle.bits.specs.Calls.{wroteAnswer};
 ghost use Rattle.dcch.specs.SoftBlocks.{SoftDecoding};
 ghost use Rattle.bts136.specs.Blocks.{FlatDecoded, FlatEncoded, flatDone, flatCorrected};
 ghost use Rattle.bts136.specs.Flat.{modeOf};
@@ -21,17 +22,17 @@ pub struct Block {
     pub corrected: u16,
 }
 
-fn flat_encoded(answer: Encoded) -> Block
-    ensures { λ r. ⌜ r ≡ flatDone (encodeAnswer answer) ⌝ }
+fn flat_encoded(answer: Wrote) -> Block
+    ensures { λ r. ⌜ r ≡ flatDone (wroteAnswer answer) ⌝ }
 {
     match answer {
-        Encoded::Done => Block {
+        Wrote::Done => Block {
             refusal: 0,
             expected: 0,
             actual: 0,
             corrected: 0,
         },
-        Encoded::Refused(why) => Block {
+        Wrote::Refused(why) => Block {
             refusal: number(why),
             expected: expected(why),
             actual: actual(why),

@@ -1,13 +1,13 @@
 // FACCH words and the slots that carry them.
 use bits::Refusal;
+use bits::Wrote;
 use bits::actual;
 use bits::expected;
 use bits::number;
 use facch::Decoded;
 use facch::WordHalf;
-use facch::Wrote;
 ghost use mathlib.Core.Path.{_≡_};
-ghost use Rattle.facch.specs.Calls.{wroteAnswer};
+ghost use Rattle.bits.specs.Calls.{wroteAnswer};
 ghost use Rattle.facch.specs.Decoding.{Decoding, decodeAnswer, lentDecode, lentErased};
 ghost use Rattle.facch.specs.Wire.{Deinterleaving, Interleaving, Observing};
 ghost use Rattle.facch.specs.Words.{Encoding};

@@ -1,7 +1,7 @@
 // Prints an answer and what became of the lent bytes.
 use bits::Refusal;
+use bits::Wrote;
 use dcch::Decoded;
-use dcch::Encoded;
 use libc::STDOUT_FILENO;
 ghost use mathlib.Core.Bool.{true};
 ghost use mathlib.Core.Path.{_≡_};
@@ -51,10 +51,10 @@ fn refusal(why: Refusal) {
     text(b"), ");
 }
 
-pub fn encoded(answer: Encoded, lent: &[u8]) {
+pub fn encoded(answer: Wrote, lent: &[u8]) {
     match answer {
-        Encoded::Done => text(b": done, "),
-        Encoded::Refused(why) => refusal(why),
+        Wrote::Done => text(b": done, "),
+        Wrote::Refused(why) => refusal(why),
     }
     lent_bytes(lent);
 }

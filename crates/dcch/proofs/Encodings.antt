@@ -21,7 +21,8 @@ use Rattle.coding.specs.Checksums.{checksumOf}
 use Rattle.coding.specs.declared.checksum.CrcMode.{CrcMode}
 use Rattle.dcch.specs.declared.BlockFormat.{BlockFormat}
 use Rattle.dcch.specs.declared.BlockFormat.the-variants.{Forward, ReverseNormal, ReverseAbbreviated}
-use Rattle.dcch.specs.declared.Encoded.the-variants as answer
+use Rattle.bits.specs.declared.Wrote.the-variants as answer
+use Rattle.bits.proofs.Writing as writing
 use Rattle.dcch.specs.Formats.{encodedBits, informationBits}
 use Rattle.dcch.specs.Wire.{interleaved}
 use Rattle.dcch.specs.Blocks.{inputsOf, cellsOf, blockOf, lentEncode, Encoding}
@@ -74,13 +75,6 @@ module _ (information : List ℕ) (binary : allBinary information ≡ true) (sma
 
 -- ---- `encode`
 module _ (f : BlockFormat) (information : List ℕ) (dvcc : ℕ) (mode : CrcMode) (block₀ : List ℕ) {l : Lent} (told : l ≡ lentEncode f information (length block₀)) where
-  pub declined-end : (why : Refusal) → l ≡ Refused why → Encoding f information dvcc mode block₀ block₀ (answer.Refused why)
-  declined-end why e =
-      record {
-        declined = λ y ey. let same : y ≡ why = cc in (ap refused (sym same), refl);
-        done = λ ef. never-both ef (sym told ∙ e);
-      }
-
   module _ (fine : l ≡ Fine) where
     tests : (informationBits f ≡ length information) × (encodedBits f ≡ length block₀) × (allBinary information ≡ true)
     tests =
@@ -109,8 +103,4 @@ module _ (f : BlockFormat) (information : List ℕ) (dvcc : ℕ) (mode : CrcMode
         pub done-end : {block : List ℕ} → cells ≡ bytes (cellsOf (bits information) dvcc mode)
             → block ≡ interleaved f 0 (take n (cells ++ drop {A = ℕ} n (replicate 260 0))) → Encoding f information dvcc mode block₀ block answer.Done
         unfolding blockOf
-        done-end ec eb =
-            record {
-              declined = λ y ey. never-both fine (told ∙ ey);
-              done = λ ef. (refl, eb ∙ ap (interleaved f 0) (cells-part ∙ ec) ∙ sym (bytes-interleaved f (cellsOf (bits information) dvcc mode)));
-            }
+        done-end ec eb = writing.done-end told fine (eb ∙ ap (interleaved f 0) (cells-part ∙ ec) ∙ sym (bytes-interleaved f (cellsOf (bits information) dvcc mode)))

@@ -20,9 +20,9 @@ use Rattle.trellis.specs.Search.{First}
 use Rattle.trellis.specs.Words.{Terminated}
 use Rattle.viterbi.specs.Hard.{weight}
 use Rattle.dcch.specs.declared.BlockFormat.{BlockFormat}
-use Rattle.dcch.specs.declared.Encoded.{Encoded}
+use Rattle.bits.specs.declared.Wrote.{Wrote}
+use Rattle.bits.specs.Calls.{Written}
 use Rattle.dcch.specs.declared.Decoded.{Decoded}
-use Rattle.dcch.specs.declared.Encoded.the-variants as encoded
 use Rattle.dcch.specs.declared.Decoded.the-variants as decoded
 use Rattle.dcch.specs.Formats.{encodedBits, informationBits}
 use Rattle.dcch.specs.Wire.{interleaved, deinterleaved}
@@ -40,12 +40,7 @@ cellsOf information dvcc mode = coded dcch (memoryHigh 0) (inputsOf information 
 unfoldable pub blockOf : BlockFormat → List Bool → ℕ → CrcMode → List Bool
 blockOf f information dvcc mode = interleaved f false (cellsOf information dvcc mode)
 
--- what each answer is to document 01
-abbrev pub encodeAnswer : Encoded → Answer Unit
-encodeAnswer encoded.Done = accepted tt
-encodeAnswer (encoded.Refused why) = refused why
-
--- the corrected bits of an accepted block
+-- what an answer is to document 01: the corrected bits of an accepted block
 abbrev pub decodeAnswer : Decoded → Answer ℕ
 decodeAnswer (decoded.Accepted corrected) = accepted corrected
 decodeAnswer (decoded.Refused why) = refused why
@@ -54,9 +49,9 @@ decodeAnswer (decoded.Refused why) = refused why
 abbrev pub lentEncode : BlockFormat → List ℕ → ℕ → Lent
 lentEncode f information room = firstOf (exactOf (informationBits f) (length information)) (firstOf (exactOf (encodedBits f) room) (binaryOf information))
 
-pub record Encoding (f : BlockFormat) (information : List ℕ) (dvcc : ℕ) (mode : CrcMode) (block₀ block : List ℕ) (r : Encoded) : Type 0 where
-  pub declined : (why : Refusal) → lentEncode f information (length block₀) ≡ Refused why → (encodeAnswer r ≡ refused why) × (block ≡ block₀)
-  pub done : lentEncode f information (length block₀) ≡ Fine → (encodeAnswer r ≡ accepted tt) × (block ≡ bytes (blockOf f (bits information) dvcc mode))
+abbrev pub Encoding : BlockFormat → List ℕ → ℕ → CrcMode → List ℕ → List ℕ → Wrote → Type 0
+Encoding f information dvcc mode block₀ block r =
+    Written (lentEncode f information (length block₀)) (bytes (blockOf f (bits information) dvcc mode)) block₀ block r
 
 -- ---- decode
 -- a block and room for the information: each length, then the symbols

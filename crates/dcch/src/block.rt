@@ -2,11 +2,11 @@
 // Ported from 136-bts, dcch.rs, and changed (see NOTICE).
 use crate::BlockFormat;
 use crate::Decoded;
-use crate::Encoded;
 use crate::wire::deinterleave;
 use crate::wire::interleave;
 use bits::Lent;
 use bits::Refusal;
+use bits::Wrote;
 use bits::exact;
 use bits::first;
 use bits::only_bits;
@@ -93,18 +93,18 @@ pub fn encode(
     dvcc: u8,
     mode: CrcMode,
     block: &mut [u8],
-) -> Encoded
+) -> Wrote
     ensures { λ r. ⌜ Encoding format (now (information .entry)) dvcc mode (now (block .entry)) (now (block .exit)) r ⌝ }
 {
     let ready = lent_encode(format, information, block.len());
     if let Lent::Refused(why) = ready {
-        return Encoded::Refused(why);
+        return Wrote::Refused(why);
     }
     let bits = format.encoded_bits();
     let mut cells = [0u8; 260];
     encode_cells(information, dvcc, mode, &mut cells[..bits]);
     interleave(format, &cells[..bits], block);
-    Encoded::Done
+    Wrote::Done
 }
 
 // Writes the first of the words nearest to a block, and gives its number of disagreements.

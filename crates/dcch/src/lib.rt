@@ -16,12 +16,6 @@ pub enum BlockFormat {
     ReverseAbbreviated,
 }
 
-// What encoding a block answers.
-pub enum Encoded {
-    Done,
-    Refused(Refusal),
-}
-
 // What decoding a block answers: the number of corrected bits, or a refusal.
 pub enum Decoded {
     Accepted(u16),

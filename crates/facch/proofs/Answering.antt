@@ -1,4 +1,4 @@
--- The ways out of a call that writes bits: refused, or done; and what Fine says. Assumes nothing.
+-- What Fine says of a call's lengths and bits. Assumes nothing.
 use mathlib.Core.Path.{_≡_, refl, sym, ap, ap₂, _∙_}
 use mathlib.Core.Bool.{Bool, true, cond}
 use mathlib.Core.List.{List}
@@ -6,26 +6,12 @@ use Prim.Native.Nat.{ℕ}
 use lib.ListN.{length}
 use borrow.Author.Tests.{eq-eqb}
 use Rattle.bits.specs.Bits.{allBinary}
-use Rattle.bits.specs.Refusals.{refused, firstOf, exactOf, binaryOf}
+use Rattle.bits.specs.Refusals.{firstOf, exactOf, binaryOf}
 use Rattle.bits.specs.declared.Lent.{Lent}
 use Rattle.bits.specs.declared.Lent.the-variants.{Fine, Refused}
-use Rattle.bits.specs.declared.Refusal.{Refusal}
 use Rattle.bits.specs.declared.Refusal.the-variants.{Symbol}
-use Rattle.bits.proofs.Refusing.{never-both, fine-first, fine-exact, fine-binary}
-use Rattle.facch.specs.declared.Wrote.the-variants as wrote
-use Rattle.facch.specs.Calls.{Written}
+use Rattle.bits.proofs.Refusing.{fine-first, fine-exact, fine-binary}
 use Rattle.facch.specs.Wire.{lentOne, lentTwo}
-
-module _ {lent l : Lent} {result buffer₀ : List ℕ} (told : l ≡ lent) where
-  pub declined-end : (why : Refusal) → l ≡ Refused why → Written lent result buffer₀ buffer₀ (wrote.Refused why)
-  declined-end why e =
-      record {
-        declined = λ y ey. let same : y ≡ why = cc in (ap refused (sym same), refl);
-        done = λ ef. never-both ef (sym told ∙ e);
-      }
-
-  pub done-end : l ≡ Fine → {buffer : List ℕ} → buffer ≡ result → Written lent result buffer₀ buffer wrote.Done
-  done-end fine e = record { declined = λ y ey. never-both fine (told ∙ ey); done = λ ef. (refl, e) }
 
 -- ---- what Fine says of the lengths and the bits
 pub one-fine : (a : List ℕ) (room : ℕ) {l : Lent} → l ≡ lentOne a room → l ≡ Fine → (length a ≡ 260) × (room ≡ 260)

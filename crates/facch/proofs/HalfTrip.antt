@@ -9,12 +9,13 @@ use lib.ListN.{length, getD, List·getD-map}
 use Rattle.bits.specs.Bits.{byte, bytes, allBinary, tally}
 use Rattle.bits.specs.Refusals.{Answer, accepted}
 use Rattle.bits.specs.declared.Lent.the-variants.{Fine}
+use Rattle.bits.proofs.Tally.{tally-zero, zero-at}
 use Rattle.bits.proofs.Binary.{byte-below, differ-same, differ-none}
 use Rattle.tailbiting.specs.TailBiting.{erasedDiffer}
 use Rattle.tailbiting.proofs.Erasable.{erasable-all, erased-none}
 use Rattle.facch.specs.declared.WordHalf.{WordHalf}
 use Rattle.facch.specs.declared.WordHalf.the-variants.{Start, End}
-use Rattle.facch.specs.declared.Wrote.{Wrote}
+use Rattle.bits.specs.declared.Wrote.{Wrote}
 use Rattle.facch.specs.Wire.{interleaved, observed, lentTwo, Interleaving, Observing}
 use Rattle.facch.specs.Words.{wordOf, tailBiting, Encoding}
 use Rattle.facch.specs.Decoding.{Content, observedCount, weight, lentErased, contentOf, Decoding}
@@ -24,21 +25,6 @@ use Rattle.facch.proofs.Received.{fine-bytes}
 use Rattle.facch.proofs.Halves.{slotted, carries, slotOf, observed-length, word-observed, half-count}
 use Rattle.facch.proofs.Determined.{half-determines}
 use Rattle.facch.proofs.RoundTrip.{agreed, erased-byte, biting-length, sound-own, content-own, written}
-
--- ---- a sum that is 0
-module _ {A B : Type 0} (f : A → B → ℕ) (d : A) (e : B) where
-  tally-zero : (xs : List A) (ys : List B) → ((k : ℕ) → k < length ys → f (getD xs k d) (getD ys k e) ≡ 0) → tally f xs ys ≡ 0
-  unfolding tally
-  tally-zero [] ys p = refl
-  tally-zero (x ∷ xs) [] p = refl
-  tally-zero (x ∷ xs) (y ∷ ys) p = ap₂ (λ (m n : ℕ). m + n) (p 0 (omega arith)) (tally-zero xs ys (λ k h. p (suc k) (omega arith)))
-
-  zero-at : (xs : List A) (ys : List B) → tally f xs ys ≡ 0 → (k : ℕ) → k < length xs → k < length ys → f (getD xs k d) (getD ys k e) ≡ 0
-  unfolding tally
-  zero-at [] ys z k h g = absurd (omega arith)
-  zero-at (x ∷ xs) [] z k h g = absurd (omega arith)
-  zero-at (x ∷ xs) (y ∷ ys) z zero h g = omega arith
-  zero-at (x ∷ xs) (y ∷ ys) z (suc k) h g = zero-at xs ys (omega arith) k (omega arith) (omega arith)
 
 -- ---- a byte of a half: the coded bit b where it is carried, else 2
 low : (c b : Bool) → cond c (byte b) 2 < 3

@@ -12,11 +12,11 @@ use Rattle.bits.specs.Places.{listed, placeIn}
 use Rattle.bits.proofs.Binary.{binary-at}
 use Rattle.bits.proofs.Listed.{is-listed}
 use Rattle.bits.specs.declared.Lent.the-variants.{Fine}
-use Rattle.facch.specs.declared.Wrote.{Wrote}
+use Rattle.bits.specs.declared.Wrote.{Wrote}
 use Rattle.facch.specs.declared.WordHalf.{WordHalf}
 use Rattle.facch.specs.declared.WordHalf.the-variants.{Start, End}
 use Rattle.facch.specs.Wire.{table, placeOf, placeAt, wireOf, byRow, interleaved, deinterleaved, observed, lentTwo, Interleaving, Deinterleaving}
-use Rattle.facch.specs.Calls.{wroteAnswer}
+use Rattle.bits.specs.Calls.{wroteAnswer}
 use Rattle.facch.specs.Decoding.{seen, observedCount}
 use Rattle.facch.proofs.Table.{wire-below, place-of-wire}
 use Rattle.facch.proofs.Interleaved.{interleaved-length, deinterleaved-length, interleaved-at, deinterleaved-at, binary-interleaved}

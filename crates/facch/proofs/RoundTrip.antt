@@ -25,7 +25,7 @@ use Rattle.coding.proofs.Answers.{checksum-below}
 use Rattle.trellis.specs.Search.{Nearest, Ambiguous}
 use Rattle.trellis.specs.Words.{OfLength}
 use Rattle.tailbiting.specs.TailBiting.{erasedDiffer}
-use Rattle.facch.specs.declared.Wrote.{Wrote}
+use Rattle.bits.specs.declared.Wrote.{Wrote}
 use Rattle.facch.specs.Words.{informationOf, wordOf, tailBiting, Encoding}
 use Rattle.facch.specs.Decoding.{Content, seen, observedCount, weight, lentErased, lentDecode, contentOf, sound, Settled, Decoding}
 use Rattle.facch.proofs.WordBits.{word-length}

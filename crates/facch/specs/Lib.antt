@@ -1,5 +1,4 @@
 -- FACCH words: the slot order, the word and its coded bits, its decoding, and the calls.
-pub mod Calls
 pub mod Wire
 pub mod Words
 pub mod Decoding

@@ -10,8 +10,8 @@ use Rattle.bits.specs.Refusals.{firstOf, exactOf, binaryOf}
 use Rattle.bits.specs.declared.Lent.{Lent}
 use Rattle.facch.specs.declared.WordHalf.{WordHalf}
 use Rattle.facch.specs.declared.WordHalf.the-variants.{Start, End}
-use Rattle.facch.specs.declared.Wrote.{Wrote}
-use Rattle.facch.specs.Calls.{Written}
+use Rattle.bits.specs.declared.Wrote.{Wrote}
+use Rattle.bits.specs.Calls.{Written}
 
 -- IS-54-B Table 2.7.3.1.1.2-1, row by row: the place in the word of the coded bit that each column carries
 unfoldable pub table : List (List ℕ)

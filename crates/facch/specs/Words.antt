@@ -13,8 +13,8 @@ use Rattle.bits.specs.declared.Refusal.the-variants.{Symbol}
 use Rattle.coding.specs.Codes.{coded, facch}
 use Rattle.coding.specs.Checksums.{checksumOf}
 use Rattle.coding.specs.declared.checksum.CrcMode.the-variants.{Addressed}
-use Rattle.facch.specs.declared.Wrote.{Wrote}
-use Rattle.facch.specs.Calls.{Written}
+use Rattle.bits.specs.declared.Wrote.{Wrote}
+use Rattle.bits.specs.Calls.{Written}
 
 -- 2.7.3.1.1: the continuation flag and the message, the highest bit first
 abbrev pub informationOf : Bool → ℕ → List Bool

@@ -17,12 +17,6 @@ pub enum WordHalf {
     End,
 }
 
-// What a call that writes bits answers.
-pub enum Wrote {
-    Done,
-    Refused(Refusal),
-}
-
 // What decoding a word answers: the word's content with its corrected and its observed bits, or a refusal.
 pub enum Decoded {
     Accepted {

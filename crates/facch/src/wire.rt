@@ -1,8 +1,8 @@
 // The slot order (IS-54-B Table 2.7.3.1.1.2-1): a slot carries half of the word before and half of its own.
 // Ported from 136-bts, facch.rs, and changed (see NOTICE).
 use crate::WordHalf;
-use crate::Wrote;
 use bits::Lent;
+use bits::Wrote;
 use bits::exact;
 use bits::first;
 use bits::only_bits;

@@ -1,8 +1,8 @@
 // Encoding of a word (IS-54-B 2.7.3.1.1).
 // Ported from 136-bts, facch.rs, and changed (see NOTICE).
-use crate::Wrote;
 use bits::Lent;
 use bits::Refusal;
+use bits::Wrote;
 use bits::exact;
 use bits::first;
 use bits::unpack;

@@ -16,7 +16,7 @@ use Rattle.dcch.specs.SoftBlocks.{SoftDecoding}
 use Rattle.dcch.specs.declared.BlockFormat.{BlockFormat}
 use Rattle.dcch.specs.declared.BlockFormat.the-variants.{Forward, ReverseNormal, ReverseAbbreviated}
 use Rattle.dcch.specs.declared.Decoded.{Decoded}
-use Rattle.dcch.specs.declared.Encoded.the-variants as encoded
+use Rattle.bits.specs.declared.Wrote.the-variants as wrote
 use Rattle.text.specs.Lines.{bitsIn, digitAt, digitOf, shaped, twoAt}
 
 -- the format of a character: `0` Forward, `1` ReverseNormal, any other ReverseAbbreviated
@@ -54,7 +54,7 @@ pub record BlockLine (letter k : ℕ) (l : List ℕ) : Type 0 where
 -- an encoding that is done, whatever was lent for the block
 pub record Encodes (f : BlockFormat) (information : List ℕ) (dvcc : ℕ) (mode : CrcMode) (block : List ℕ) : Type 0 where
   pub before : List ℕ
-  pub call : Encoding f information dvcc mode before block encoded.Done
+  pub call : Encoding f information dvcc mode before block wrote.Done
 
 -- `e F M DD INFORMATION BLOCK`
 pub record EncodeLine (l : List ℕ) : Type 0 where

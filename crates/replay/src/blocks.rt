@@ -1,10 +1,10 @@
 // Lines of DCCH blocks: whether the answer of a line is the proved crate's.
 use bits::Refusal;
+use bits::Wrote;
 use bits::wide;
 use coding::checksum::CrcMode;
 use dcch::BlockFormat;
 use dcch::Decoded;
-use dcch::Encoded;
 use dcch::decode;
 use dcch::decode_soft;
 use dcch::encode;
@@ -20,7 +20,7 @@ ghost use lib.ListN.{length};
 ghost use Rattle.bits.specs.declared.Refusal.the-variants.{Crc};
 ghost use Rattle.dcch.specs.Blocks.{Decoding, Encoding, decodeAnswer};
 ghost use Rattle.dcch.specs.SoftBlocks.{SoftDecoding};
-ghost use Rattle.dcch.specs.declared.Encoded.the-variants as encoded;
+ghost use Rattle.bits.specs.declared.Wrote.the-variants as wrote;
 ghost use Rattle.text.specs.Lines.{bitsIn, digitAt, twoAt};
 ghost use Rattle.replay.specs.Blocks.{Answers, BlockLine, DecodeLine, EncodeLine, Encodes, Parts, SoftLine, crcOr, formatOf, modeOf, reliabilitiesIn, reliabilityOf};
 
@@ -84,12 +84,12 @@ fn read_reliabilities(text: &[u8], values: &mut [f64])
     }
 }
 
-fn is_done(answer: Encoded) -> bool
-    ensures { λ r. ⌜ (r ≡ true → answer ≡ encoded.Done) ⌝ }
+fn is_done(answer: Wrote) -> bool
+    ensures { λ r. ⌜ (r ≡ true → answer ≡ wrote.Done) ⌝ }
 {
     match answer {
-        Encoded::Done => true,
-        Encoded::Refused(_) => false,
+        Wrote::Done => true,
+        Wrote::Refused(_) => false,
     }
 }
 

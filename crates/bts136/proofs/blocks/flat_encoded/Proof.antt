@@ -1,7 +1,7 @@
 -- `bts136::blocks::flat_encoded` meets its contract, by the cases of the answer. Assumes nothing.
 use mathlib.Core.Path.{sym, ap, _∙_}
 use Rattle.bts136.proofs.Carried.{refused-block}
-use Rattle.dcch.specs.Blocks.{encodeAnswer}
+use Rattle.bits.specs.Calls.{wroteAnswer}
 use Rattle.bts136.specs.Blocks.{flatDone}
 use borrow.Author.Needs.{needs}
 use Rattle.bts136.proofs.blocks.flat_encoded.Statement.{statement}
@@ -23,11 +23,11 @@ actual-requires : tie.Need-actual-requires
 actual-requires c κs = search needs
 
 returns : tie.Need-returns
-returns c = sym (ap (λ x. flatDone (encodeAnswer x)) (c .enum-told .given .1))
+returns c = sym (ap (λ x. flatDone (wroteAnswer x)) (c .enum-told .given .1))
 
 returns-2 : tie.Need-returns-2
 returns-2 c =
-    refused-block (c .before .before .before .before .answer .given .0 .0) _ _ _ (c .before .before .number .ensures) (c .before .expected .ensures) (c .actual .ensures) ∙ sym (ap (λ x. flatDone (encodeAnswer x)) (c .before .before .before .before .answer .given .1))
+    refused-block (c .before .before .before .before .answer .given .0 .0) _ _ _ (c .before .before .number .ensures) (c .before .expected .ensures) (c .actual .ensures) ∙ sym (ap (λ x. flatDone (wroteAnswer x)) (c .before .before .before .before .answer .given .1))
 
 pub flat-encoded-spec : {M : Type 1} → statement M
 flat-encoded-spec =

@@ -1,7 +1,7 @@
 -- `bts136::words::flat_wrote` meets its contract, by the cases of the answer. Assumes nothing.
 use mathlib.Core.Path.{sym, ap, _∙_}
 use Rattle.bts136.proofs.Carried.{refused-written}
-use Rattle.facch.specs.Calls.{wroteAnswer}
+use Rattle.bits.specs.Calls.{wroteAnswer}
 use Rattle.bts136.specs.Words.{flatWrote}
 use borrow.Author.Needs.{needs}
 use Rattle.bts136.proofs.words.flat_wrote.Statement.{statement}

@@ -2,7 +2,8 @@
 use native.Mathlib.Omega.{arith}
 use lib.ListN.{length}
 use Rattle.bits.proofs.LentPart.{part-length, whole-length}
-use Rattle.dcch.proofs.Encodings.{declined-end, within, asks-cells, asks-interleave, done-end}
+use Rattle.bits.proofs.Writing.{declined-end}
+use Rattle.dcch.proofs.Encodings.{within, asks-cells, asks-interleave, done-end}
 use borrow.Author.Needs.{needs}
 use Rattle.dcch.proofs.block.encode.Statement.{statement}
 use Rattle.dcch.proofs.block.encode.Tie as tie
@@ -14,7 +15,7 @@ enum-known-ready : tie.Need-enum-known-ready
 enum-known-ready c = search needs
 
 returns : tie.Need-returns
-returns c = declined-end (c .before .before .before .before .before .before .args .format) (c .before .before .before .before .before .before .args .information .now) (c .before .before .before .before .before .before .args .dvcc) (c .before .before .before .before .before .before .args .mode) (c .before .before .before .before .before .before .args .block .now) (c .before .before .before .lent-encode .ensures) _ (c .before .ready .given .1)
+returns c = declined-end (c .before .before .before .lent-encode .ensures) _ (c .before .ready .given .1)
 
 enum-told : tie.Need-enum-told
 enum-told c = search needs

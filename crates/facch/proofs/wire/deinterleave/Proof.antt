@@ -1,5 +1,6 @@
 -- `facch::wire::deinterleave` meets its contract: a refusal, or the word. Assumes nothing.
-use Rattle.facch.proofs.Answering.{declined-end, done-end, two-fine}
+use Rattle.bits.proofs.Writing.{declined-end, done-end}
+use Rattle.facch.proofs.Answering.{two-fine}
 use borrow.Author.Needs.{needs}
 use Rattle.facch.proofs.wire.deinterleave.Statement.{statement}
 use Rattle.facch.proofs.wire.deinterleave.Tie as tie

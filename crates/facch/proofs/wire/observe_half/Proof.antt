@@ -1,5 +1,6 @@
 -- `facch::wire::observe_half` meets its contract: a refusal, or the half word. Assumes nothing.
-use Rattle.facch.proofs.Answering.{declined-end, done-end, one-fine}
+use Rattle.bits.proofs.Writing.{declined-end, done-end}
+use Rattle.facch.proofs.Answering.{one-fine}
 use borrow.Author.Needs.{needs}
 use Rattle.facch.proofs.wire.observe_half.Statement.{statement}
 use Rattle.facch.proofs.wire.observe_half.Tie as tie

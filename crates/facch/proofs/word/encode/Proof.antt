@@ -1,5 +1,5 @@
 -- `facch::word::encode` meets its contract: a refusal, or the coded bits of the word. Assumes nothing.
-use Rattle.facch.proofs.Answering.{declined-end, done-end}
+use Rattle.bits.proofs.Writing.{declined-end, done-end}
 use Rattle.facch.proofs.WordBits.{asks-word, word-coded}
 use borrow.Author.Needs.{needs}
 use Rattle.facch.proofs.word.encode.Statement.{statement}

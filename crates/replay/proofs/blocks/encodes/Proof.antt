@@ -29,9 +29,10 @@ same-length-2 c = search needs
 returns-2 : tie.Need-returns-2
 returns-2 c = λ e.
     let made = c .before .before .before .before .before .before .encode in
+    let entry = c .before .before .before .before .before .before .before .before .before .before .before .args in
     record {
-      before = now (c .before .before .before .before .before .before .before .before .before .before .before .args .block);
-      call = alike (Encoding _ _ _ _ _) (c .writes .ensures e) (c .before .before .before .is-done .ensures (not-false _ (c .before .before .if1 .left))) (made .ensures);
+      before = now (entry .block);
+      call = alike (Encoding (entry .format) (now (entry .information)) (entry .dvcc) (entry .mode) (now (entry .block))) (c .writes .ensures e) (c .before .before .before .is-done .ensures (not-false _ (c .before .before .if1 .left))) (made .ensures);
     }
 
 pub encodes-spec : {M : Type 1} → statement M

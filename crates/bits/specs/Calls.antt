@@ -2,12 +2,12 @@
 use mathlib.Core.Path.{_≡_}
 use mathlib.Core.List.{List}
 use Prim.Native.Nat.{ℕ}
 use Rattle.bits.specs.Refusals.{Answer, accepted, refused}
 use Rattle.bits.specs.declared.Lent.{Lent}
 use Rattle.bits.specs.declared.Lent.the-variants.{Fine, Refused}
 use Rattle.bits.specs.declared.Refusal.{Refusal}
-use Rattle.facch.specs.declared.Wrote.{Wrote}
-use Rattle.facch.specs.declared.Wrote.the-variants as wrote
+use Rattle.bits.specs.declared.Wrote.{Wrote}
+use Rattle.bits.specs.declared.Wrote.the-variants as wrote
 
 -- what the answer is to document 01
 abbrev pub wroteAnswer : Wrote → Answer Unit
