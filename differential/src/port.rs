@@ -43,7 +43,33 @@ pub struct Block {
 }
 
 /// Input and its length, DVCC, Broadcast, output and its length.
-type BlockCall = unsafe extern "C" fn(*const u8, usize, u8, bool, *mut u8, usize) -> Block;
+pub type BlockCall<T> = unsafe extern "C" fn(*const T, usize, u8, bool, *mut u8, usize) -> Block;
+
+/// Declares calls on blocks, each with the type of its input.
+macro_rules! block_calls {
+    ($($call:ident: $input:ty,)*) => {
+        unsafe extern "C" {
+            $(fn $call(
+                input: *const $input,
+                input_len: usize,
+                dvcc: u8,
+                broadcast: bool,
+                output: *mut u8,
+                output_len: usize,
+            ) -> Block;)*
+        }
+    };
+}
+pub(crate) use block_calls;
+
+block_calls! {
+    bts136_dcch_encode_forward: u8,
+    bts136_dcch_encode_reverse_normal: u8,
+    bts136_dcch_encode_reverse_abbreviated: u8,
+    bts136_dcch_decode_forward: u8,
+    bts136_dcch_decode_reverse_normal: u8,
+    bts136_dcch_decode_reverse_abbreviated: u8,
+}
 
 unsafe extern "C" {
     safe fn bts136_dcch_transition(state: u8, input: u8) -> Step;
@@ -59,54 +85,6 @@ unsafe extern "C" {
         word: *mut u8,
         word_len: usize,
     ) -> Search;
-    fn bts136_dcch_encode_forward(
-        information: *const u8,
-        information_len: usize,
-        dvcc: u8,
-        broadcast: bool,
-        block: *mut u8,
-        block_len: usize,
-    ) -> Block;
-    fn bts136_dcch_encode_reverse_normal(
-        information: *const u8,
-        information_len: usize,
-        dvcc: u8,
-        broadcast: bool,
-        block: *mut u8,
-        block_len: usize,
-    ) -> Block;
-    fn bts136_dcch_encode_reverse_abbreviated(
-        information: *const u8,
-        information_len: usize,
-        dvcc: u8,
-        broadcast: bool,
-        block: *mut u8,
-        block_len: usize,
-    ) -> Block;
-    fn bts136_dcch_decode_forward(
-        block: *const u8,
-        block_len: usize,
-        dvcc: u8,
-        broadcast: bool,
-        information: *mut u8,
-        information_len: usize,
-    ) -> Block;
-    fn bts136_dcch_decode_reverse_normal(
-        block: *const u8,
-        block_len: usize,
-        dvcc: u8,
-        broadcast: bool,
-        information: *mut u8,
-        information_len: usize,
-    ) -> Block;
-    fn bts136_dcch_decode_reverse_abbreviated(
-        block: *const u8,
-        block_len: usize,
-        dvcc: u8,
-        broadcast: bool,
-        information: *mut u8,
-        information_len: usize,
-    ) -> Block;
 }
 
 pub fn dcch_transition(state: u8, input: u8) -> Step {
@@ -139,13 +117,20 @@ pub fn viterbi_free(coded: &[u8], word: &mut [u8]) -> Search {
     unsafe { bts136_viterbi_free(coded.as_ptr(), coded.len(), word.as_mut_ptr(), word.len()) }
 }
 
-fn block_call(
-    call: BlockCall,
-    input: &[u8],
+/// Calls the one of a format, of those of Forward, ReverseNormal and ReverseAbbreviated.
+pub fn block_call<T>(
+    calls: [BlockCall<T>; 3],
+    format: BlockFormat,
+    input: &[T],
     dvcc: u8,
     broadcast: bool,
     output: &mut [u8],
 ) -> Block {
+    let call = match format {
+        BlockFormat::Forward => calls[0],
+        BlockFormat::ReverseNormal => calls[1],
+        BlockFormat::ReverseAbbreviated => calls[2],
+    };
     let (out, out_len) = (output.as_mut_ptr(), output.len());
     unsafe { call(input.as_ptr(), input.len(), dvcc, broadcast, out, out_len) }
 }
@@ -157,12 +142,12 @@ pub fn dcch_encode(
     broadcast: bool,
     block: &mut [u8],
 ) -> Block {
-    let call = match format {
-        BlockFormat::Forward => bts136_dcch_encode_forward,
-        BlockFormat::ReverseNormal => bts136_dcch_encode_reverse_normal,
-        BlockFormat::ReverseAbbreviated => bts136_dcch_encode_reverse_abbreviated,
-    };
-    block_call(call, information, dvcc, broadcast, block)
+    let calls = [
+        bts136_dcch_encode_forward,
+        bts136_dcch_encode_reverse_normal,
+        bts136_dcch_encode_reverse_abbreviated,
+    ];
+    block_call(calls, format, information, dvcc, broadcast, block)
 }
 
 pub fn dcch_decode(
@@ -172,10 +157,10 @@ pub fn dcch_decode(
     broadcast: bool,
     information: &mut [u8],
 ) -> Block {
-    let call = match format {
-        BlockFormat::Forward => bts136_dcch_decode_forward,
-        BlockFormat::ReverseNormal => bts136_dcch_decode_reverse_normal,
-        BlockFormat::ReverseAbbreviated => bts136_dcch_decode_reverse_abbreviated,
-    };
-    block_call(call, block, dvcc, broadcast, information)
+    let calls = [
+        bts136_dcch_decode_forward,
+        bts136_dcch_decode_reverse_normal,
+        bts136_dcch_decode_reverse_abbreviated,
+    ];
+    block_call(calls, format, block, dvcc, broadcast, information)
 }

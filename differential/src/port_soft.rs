@@ -1,33 +1,12 @@
 //! The port's soft decoder of DCCH, as port.rs and channel.rs have the others.
 use crate::channel::Channel;
 use crate::phy::dcch::BlockFormat;
-use crate::port::Block;
+use crate::port::{Block, block_call, block_calls};
 
-unsafe extern "C" {
-    fn bts136_dcch_decode_soft_forward(
-        block: *const f64,
-        block_len: usize,
-        dvcc: u8,
-        broadcast: bool,
-        information: *mut u8,
-        information_len: usize,
-    ) -> Block;
-    fn bts136_dcch_decode_soft_reverse_normal(
-        block: *const f64,
-        block_len: usize,
-        dvcc: u8,
-        broadcast: bool,
-        information: *mut u8,
-        information_len: usize,
-    ) -> Block;
-    fn bts136_dcch_decode_soft_reverse_abbreviated(
-        block: *const f64,
-        block_len: usize,
-        dvcc: u8,
-        broadcast: bool,
-        information: *mut u8,
-        information_len: usize,
-    ) -> Block;
+block_calls! {
+    bts136_dcch_decode_soft_forward: f64,
+    bts136_dcch_decode_soft_reverse_normal: f64,
+    bts136_dcch_decode_soft_reverse_abbreviated: f64,
 }
 
 /// A positive reliability favours zero, a negative one favours one.
@@ -38,13 +17,12 @@ pub fn dcch_decode_soft(
     broadcast: bool,
     information: &mut [u8],
 ) -> Block {
-    let call = match format {
-        BlockFormat::Forward => bts136_dcch_decode_soft_forward,
-        BlockFormat::ReverseNormal => bts136_dcch_decode_soft_reverse_normal,
-        BlockFormat::ReverseAbbreviated => bts136_dcch_decode_soft_reverse_abbreviated,
-    };
-    let (out, out_len) = (information.as_mut_ptr(), information.len());
-    unsafe { call(block.as_ptr(), block.len(), dvcc, broadcast, out, out_len) }
+    let calls = [
+        bts136_dcch_decode_soft_forward,
+        bts136_dcch_decode_soft_reverse_normal,
+        bts136_dcch_decode_soft_reverse_abbreviated,
+    ];
+    block_call(calls, format, block, dvcc, broadcast, information)
 }
 
 impl Channel {

@@ -1,11 +1,11 @@
 -- What Fine says: every test was passed. Assumes nothing.
-use mathlib.Core.Path.{_≡_, refl}
+use mathlib.Core.Path.{_≡_, refl, sym, ap}
 use mathlib.Core.Bool.{Bool, true, false, cond}
 use mathlib.Core.List.{List}
 use Prim.Native.Nat.{ℕ}
 use native.Mathlib.Omega.{arith}
 use lib.Dec.{eqb}
-use borrow.Author.Tests.{eqb-true}
+use borrow.Author.Tests.{eqb-true, eq-eqb}
 use Rattle.bits.specs.Bits.{allBinary}
 use Rattle.bits.specs.Refusals.{firstOf, exactOf, binaryOf}
 use Rattle.bits.specs.declared.Lent.{Lent}
@@ -30,3 +30,10 @@ fine-exact expected actual e = eqb-true expected actual (passed (eqb expected ac
 
 pub fine-binary : (l : List ℕ) → binaryOf l ≡ Fine → allBinary l ≡ true
 fine-binary l e = passed (allBinary l) Symbol Fine e .0
+
+-- ---- and what gives Fine
+pub exact-fine : (n m : ℕ) → m ≡ n → exactOf n m ≡ Fine
+exact-fine n m e = rw (eq-eqb n m (sym e))
+
+pub binary-fine : (l : List ℕ) → allBinary l ≡ true → binaryOf l ≡ Fine
+binary-fine l e = ap (λ (t : Bool). cond t Fine (Refused Symbol)) e

@@ -27,6 +27,7 @@ use Rattle.coding.proofs.Answers.{checksum-below}
 use Rattle.trellis.specs.Search.{First}
 use Rattle.trellis.specs.Words.{Terminated}
 use Rattle.viterbi.specs.Hard.{weight, weightFrom}
+use Rattle.bits.proofs.Refusing.{exact-fine}
 use Rattle.dcch.specs.declared.BlockFormat.{BlockFormat}
 use Rattle.dcch.specs.declared.Decoded.{Decoded}
 use Rattle.dcch.specs.Formats.{encodedBits, informationBits}
@@ -34,9 +35,6 @@ use Rattle.dcch.specs.Wire.{interleaved, deinterleaved}
 use Rattle.dcch.specs.Blocks.{inputsOf, cellsOf, blockOf, sound, lentDecode, decodeAnswer, Settled, Decoding}
 use Rattle.dcch.proofs.Interleaved.{interleaved-length, deinterleaved-interleaved}
 use Rattle.dcch.proofs.Encodings.{format-sizes}
-
-exact-fine : (n m : ℕ) → n ≡ m → exactOf n m ≡ Fine
-exact-fine n m e = rw (eq-eqb n m e)
 
 module _ (f : BlockFormat) (information : List Bool) (size : length information ≡ informationBits f) (dvcc : ℕ) (mode : CrcMode) where
   inputs : List Bool
@@ -102,7 +100,7 @@ module _ (f : BlockFormat) (information : List Bool) (size : length information 
       let block : List ℕ = bytes (interleaved f false (cellsOf information dvcc mode)) in
       let l : length block ≡ encodedBits f = length-map (interleaved f false (cellsOf information dvcc mode)) byte ∙ interleaved-length f false (cellsOf information dvcc mode) in
       let b : binaryOf block ≡ Fine = ap (λ (t : Bool). cond t Fine (Refused Symbol)) (binary-bytes (interleaved f false (cellsOf information dvcc mode))) in
-      ap₂ firstOf (exact-fine (encodedBits f) (length block) (sym l)) (ap₂ firstOf (exact-fine (informationBits f) n (sym e)) b)
+      ap₂ firstOf (exact-fine (encodedBits f) (length block) l) (ap₂ firstOf (exact-fine (informationBits f) n e) b)
 
   pub round-trip : (information₀ information′ : List ℕ) (r : Decoded) → length information₀ ≡ informationBits f
       → Decoding f (bytes (blockOf f information dvcc mode)) dvcc mode information₀ information′ r

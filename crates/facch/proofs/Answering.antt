@@ -1,16 +1,14 @@
 -- What Fine says of a call's lengths and bits. Assumes nothing.
-use mathlib.Core.Path.{_≡_, refl, sym, ap, ap₂, _∙_}
-use mathlib.Core.Bool.{Bool, true, cond}
+use mathlib.Core.Path.{_≡_, sym, ap₂, _∙_}
+use mathlib.Core.Bool.{true}
 use mathlib.Core.List.{List}
 use Prim.Native.Nat.{ℕ}
 use lib.ListN.{length}
-use borrow.Author.Tests.{eq-eqb}
 use Rattle.bits.specs.Bits.{allBinary}
 use Rattle.bits.specs.Refusals.{firstOf, exactOf, binaryOf}
 use Rattle.bits.specs.declared.Lent.{Lent}
-use Rattle.bits.specs.declared.Lent.the-variants.{Fine, Refused}
-use Rattle.bits.specs.declared.Refusal.the-variants.{Symbol}
-use Rattle.bits.proofs.Refusing.{fine-first, fine-exact, fine-binary}
+use Rattle.bits.specs.declared.Lent.the-variants.{Fine}
+use Rattle.bits.proofs.Refusing.{fine-first, fine-exact, fine-binary, exact-fine, binary-fine}
 use Rattle.facch.specs.Wire.{lentOne, lentTwo}
 
 -- ---- what Fine says of the lengths and the bits
@@ -38,12 +36,6 @@ pub two-bits : (a b : List ℕ) (room : ℕ) → lentTwo a b room ≡ Fine → (
 two-bits a b room fine = let t = two-tests a b room fine in (fine-binary a (t .3), fine-binary b (t .4))
 
 -- ---- and what gives Fine
-pub exact-fine : (n m : ℕ) → m ≡ n → exactOf n m ≡ Fine
-exact-fine n m e = rw (eq-eqb n m (sym e))
-
-pub binary-fine : (l : List ℕ) → allBinary l ≡ true → binaryOf l ≡ Fine
-binary-fine l e = ap (λ (t : Bool). cond t Fine (Refused Symbol)) e
-
 pub fine-two : (a b : List ℕ) (room : ℕ) → length a ≡ 260 → length b ≡ 260 → room ≡ 260 → allBinary a ≡ true → allBinary b ≡ true → lentTwo a b room ≡ Fine
 fine-two a b room la lb lr ba bb =
     ap₂ firstOf (exact-fine 260 (length a) la)

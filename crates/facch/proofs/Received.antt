@@ -15,11 +15,10 @@ use Rattle.bits.specs.declared.Lent.{Lent}
 use Rattle.bits.specs.declared.Lent.the-variants.{Fine, Refused}
 use Rattle.bits.specs.declared.Refusal.the-variants.{Symbol}
 use Rattle.bits.proofs.Binary.{binary-at}
-use Rattle.bits.proofs.Refusing.{passed, fine-first, fine-exact, fine-binary}
+use Rattle.bits.proofs.Refusing.{passed, fine-first, fine-exact, fine-binary, exact-fine}
 use Rattle.tailbiting.specs.TailBiting.{allErasable}
 use Rattle.tailbiting.proofs.Erasable.{erasable-cons, erasable-all}
 use Rattle.facch.specs.Decoding.{seen, observedCount, erasableOf, lentErased, lentDecode}
-use Rattle.facch.proofs.Answering.{exact-fine}
 
 -- ---- bytes 0, 1 and 2
 pub binary-erasable : (l : List ℕ) → allBinary l ≡ true → allErasable l ≡ true

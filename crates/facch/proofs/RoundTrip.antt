@@ -29,7 +29,7 @@ use Rattle.bits.specs.declared.Wrote.{Wrote}
 use Rattle.facch.specs.Words.{informationOf, wordOf, tailBiting, Encoding}
 use Rattle.facch.specs.Decoding.{Content, seen, observedCount, weight, lentErased, lentDecode, contentOf, sound, Settled, Decoding}
 use Rattle.facch.proofs.WordBits.{word-length}
-use Rattle.facch.proofs.Answering.{exact-fine, binary-fine}
+use Rattle.bits.proofs.Refusing.{exact-fine, binary-fine}
 use Rattle.facch.proofs.Received.{binary-erasable, fine-bytes}
 use Rattle.facch.proofs.Determined.{whole-determines}
 

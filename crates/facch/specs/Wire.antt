@@ -13,7 +13,7 @@ use Rattle.facch.specs.declared.WordHalf.the-variants.{Start, End}
 use Rattle.bits.specs.declared.Wrote.{Wrote}
 use Rattle.bits.specs.Calls.{Written}
 
--- IS-54-B Table 2.7.3.1.1.2-1, row by row: the place in the word of the coded bit that each column carries
+-- IS-54-B Table 2.7.3.1.1.2-1, as the original's rule gives it, row by row: the place in the word of the coded bit that each column carries
 unfoldable pub table : List (List ℕ)
 table =
     (215 ∷ 256 ∷ 223 ∷ 258 ∷ 230 ∷ 219 ∷ 257 ∷ 227 ∷ 259 ∷ 189 ∷ []) ∷
