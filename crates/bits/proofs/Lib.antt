@@ -3,6 +3,7 @@ pub mod Tested
 pub mod Listed
 pub mod Permuted
 pub mod Filled
+pub mod Scattered
 pub mod Passing
 pub mod LentPart
 pub mod Ring

@@ -2,12 +2,12 @@
 use mathlib.Core.Path.{_≡_, refl, sym, ap}
 use mathlib.Core.Bool.{Bool, true, false, cond}
 use mathlib.Core.List.{List}
-use Prim.Native.Nat.{ℕ}
+use Prim.Native.Nat.{ℕ, _<_}
 use native.Mathlib.Omega.{arith}
-use lib.Dec.{eqb}
-use borrow.Author.Tests.{eqb-true, eq-eqb}
+use lib.Dec.{eqb, ltb}
+use borrow.Author.Tests.{eqb-true, eq-eqb, ltb-true, lt-ltb}
 use Rattle.bits.specs.Bits.{allBinary}
-use Rattle.bits.specs.Refusals.{firstOf, exactOf, binaryOf}
+use Rattle.bits.specs.Refusals.{firstOf, exactOf, binaryOf, belowOf}
 use Rattle.bits.specs.declared.Lent.{Lent}
 use Rattle.bits.specs.declared.Lent.the-variants.{Fine, Refused}
 use Rattle.bits.specs.declared.Refusal.{Refusal}
@@ -31,9 +31,15 @@ fine-exact expected actual e = eqb-true expected actual (passed (eqb expected ac
 pub fine-binary : (l : List ℕ) → binaryOf l ≡ Fine → allBinary l ≡ true
 fine-binary l e = passed (allBinary l) Symbol Fine e .0
 
+pub fine-below : (limit x : ℕ) → belowOf limit x ≡ Fine → x < limit
+fine-below limit x e = ltb-true x limit (passed (ltb x limit) Symbol Fine e .0)
+
 -- ---- and what gives Fine
 pub exact-fine : (n m : ℕ) → m ≡ n → exactOf n m ≡ Fine
 exact-fine n m e = rw (eq-eqb n m (sym e))
 
 pub binary-fine : (l : List ℕ) → allBinary l ≡ true → binaryOf l ≡ Fine
 binary-fine l e = ap (λ (t : Bool). cond t Fine (Refused Symbol)) e
+
+pub below-fine : (limit x : ℕ) → x < limit → belowOf limit x ≡ Fine
+below-fine limit x h = rw (lt-ltb x limit h)

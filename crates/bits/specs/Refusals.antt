@@ -1,8 +1,8 @@
 -- The refusals of document 01 by number, and what a call can answer.
-use mathlib.Core.Bool.{cond}
+use mathlib.Core.Bool.{Bool, cond}
 use mathlib.Core.List.{List}
 use Prim.Native.Nat.{ℕ}
-use lib.Dec.{eqb}
+use lib.Dec.{eqb, ltb}
 use Rattle.bits.specs.Bits.{allBinary}
 use Rattle.bits.specs.declared.Refusal.{Refusal}
 use Rattle.bits.specs.declared.Lent.{Lent}
@@ -58,6 +58,14 @@ firstOf Fine later = later
 abbrev pub exactOf : ℕ → ℕ → Lent
 exactOf expected actual = cond (eqb expected actual) Fine (Refused (Length expected actual))
 
+-- Symbol unless a test is passed
+abbrev pub symbolUnless : Bool → Lent
+symbolUnless passed = cond passed Fine (Refused Symbol)
+
 -- Symbol where a byte is no bit
 abbrev pub binaryOf : List ℕ → Lent
-binaryOf l = cond (allBinary l) Fine (Refused Symbol)
+binaryOf l = symbolUnless (allBinary l)
+
+-- Symbol where a number is not below its limit
+abbrev pub belowOf : ℕ → ℕ → Lent
+belowOf limit x = symbolUnless (ltb x limit)

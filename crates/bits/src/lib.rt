@@ -5,7 +5,7 @@ ghost use Prim.Native.Nat.{_<_, _≤_};
 ghost use lib.ListN.{length};
 ghost use Rattle.bits.specs.Bits.{allBinary, bit, bits, bytes, differ, disagreements};
 ghost use Rattle.bits.specs.Numbers.{packed, unpacked};
-ghost use Rattle.bits.specs.Refusals.{actualOf, binaryOf, exactOf, expectedOf, firstOf, numberOf};
+ghost use Rattle.bits.specs.Refusals.{actualOf, belowOf, binaryOf, exactOf, expectedOf, firstOf, numberOf, symbolUnless};
 
 // Why a call is refused. `number` gives document 01's number of each.
 pub enum Refusal {
@@ -113,14 +113,27 @@ pub fn exact(wanted: usize, given: usize) -> Lent
     })
 }
 
+fn symbol_unless(passed: bool) -> Lent
+    ensures { λ r. ⌜ r ≡ symbolUnless passed ⌝ }
+{
+    if passed {
+        return Lent::Fine;
+    }
+    Lent::Refused(Refusal::Symbol)
+}
+
 // Refused where a byte is no bit.
 pub fn only_bits(s: &[u8]) -> Lent
     ensures { λ r. ⌜ r ≡ binaryOf (now (s .entry)) ⌝ }
 {
-    if all_binary(s) {
-        return Lent::Fine;
-    }
-    Lent::Refused(Refusal::Symbol)
+    symbol_unless(all_binary(s))
+}
+
+// Refused where a number is not below its limit.
+pub fn below(limit: u64, x: u64) -> Lent
+    ensures { λ r. ⌜ r ≡ belowOf limit x ⌝ }
+{
+    symbol_unless(x < limit)
 }
 
 // A byte as an index.
