@@ -1,12 +1,4 @@
 -- The laws.
-pub mod Wiring
-pub mod Interleaved
-pub mod Passing
-pub mod TableRows
-pub mod Finishing
-pub mod Inputs
-pub mod Encodings
-pub mod Decodings
 pub mod RoundTrip
 pub mod SoftCells
 pub mod SoftDecodings

@@ -28,13 +28,13 @@ use Rattle.trellis.specs.Search.{First}
 use Rattle.trellis.specs.Words.{Terminated}
 use Rattle.viterbi.specs.Hard.{weight, weightFrom}
 use Rattle.bits.proofs.Refusing.{exact-fine}
-use Rattle.dcch.specs.declared.BlockFormat.{BlockFormat}
-use Rattle.dcch.specs.declared.Decoded.{Decoded}
-use Rattle.dcch.specs.Formats.{encodedBits, informationBits}
-use Rattle.dcch.specs.Wire.{interleaved, deinterleaved}
-use Rattle.dcch.specs.Blocks.{inputsOf, cellsOf, blockOf, sound, lentDecode, decodeAnswer, Settled, Decoding}
-use Rattle.dcch.proofs.Interleaved.{interleaved-length, deinterleaved-interleaved}
-use Rattle.dcch.proofs.Encodings.{format-sizes}
+use Rattle.dcch_wire.specs.declared.BlockFormat.{BlockFormat}
+use Rattle.dcch_block.specs.declared.Decoded.{Decoded}
+use Rattle.dcch_wire.specs.Formats.{encodedBits, informationBits}
+use Rattle.dcch_wire.specs.Wire.{interleaved, deinterleaved}
+use Rattle.dcch_block.specs.Blocks.{inputsOf, cellsOf, blockOf, sound, lentDecode, decodeAnswer, Settled, Decoding}
+use Rattle.dcch_wire.proofs.Interleaved.{interleaved-length, deinterleaved-interleaved}
+use Rattle.dcch_block.proofs.Encodings.{format-sizes}
 
 module _ (f : BlockFormat) (information : List Bool) (size : length information ≡ informationBits f) (dvcc : ℕ) (mode : CrcMode) where
   inputs : List Bool

@@ -1,5 +1,2 @@
--- DCCH blocks: formats, the order in which cells are sent, and the calls.
-pub mod Formats
-pub mod Wire
-pub mod Blocks
+-- DCCH blocks of reliabilities.
 pub mod SoftBlocks

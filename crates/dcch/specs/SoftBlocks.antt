@@ -16,14 +16,14 @@ use Rattle.coding.specs.Registers.{memoryHigh}
 use Rattle.coding.specs.declared.checksum.CrcMode.{CrcMode}
 use Rattle.trellis.specs.Search.{First}
 use Rattle.trellis.specs.Words.{Terminated}
-use Rattle.soft.specs.Reliability.{allFinite, AllWhole, signCount}
+use Rattle.reliability.specs.Reliability.{allFinite, AllWhole, signCount}
 use Rattle.soft.specs.RustOrder.{rustBits}
 use Rattle.soft.specs.Soft.{softWord, totalCost}
-use Rattle.dcch.specs.declared.BlockFormat.{BlockFormat}
-use Rattle.dcch.specs.declared.Decoded.{Decoded}
-use Rattle.dcch.specs.Formats.{encodedBits, informationBits}
-use Rattle.dcch.specs.Wire.{deinterleaved}
-use Rattle.dcch.specs.Blocks.{decodeAnswer, Finished}
+use Rattle.dcch_wire.specs.declared.BlockFormat.{BlockFormat}
+use Rattle.dcch_block.specs.declared.Decoded.{Decoded}
+use Rattle.dcch_wire.specs.Formats.{encodedBits, informationBits}
+use Rattle.dcch_wire.specs.Wire.{deinterleaved}
+use Rattle.dcch_block.specs.Blocks.{decodeAnswer, Finished}
 
 -- a block and room for the information: each length
 abbrev pub lentSoft : BlockFormat → ℕ → ℕ → Lent

@@ -1,71 +1,37 @@
 -- The ends of a decoding: what its calls are asked, and what each way out answers. Assumes nothing.
 use mathlib.Core.Path.{_≡_, refl, sym, ap, ap₂, subst, _∙_}
-use mathlib.Core.Bool.{Bool, true, false, false≢true}
-use mathlib.Core.List.{List, [], _∷_}
-use Prim.Native.Nat.{ℕ, _%_, _<_, _≤_}
+use mathlib.Core.Bool.{Bool, true, false, not, false≢true}
+use mathlib.Core.List.{List}
+use Prim.Native.Nat.{ℕ, _<_, _≤_}
 use native.Mathlib.Omega.{arith}
 use lib.Dec.{eqb}
-use lib.ListN.{length, getD, take, drop, length-take, length-map}
-use borrow.Author.Tests.{eq-eqb, ne-eqb}
+use lib.ListN.{length, getD, length-map}
 use Rattle.bits.specs.Bits.{byte, bits, allBinary}
-use Rattle.bits.specs.Numbers.{packed}
 use Rattle.bits.specs.Refusals.{Answer, accepted, refused}
 use Rattle.bits.specs.declared.Lent.{Lent}
 use Rattle.bits.specs.declared.Lent.the-variants.{Fine, Refused}
 use Rattle.bits.specs.declared.Refusal.{Refusal}
 use Rattle.bits.specs.declared.Refusal.the-variants as refusal
-use Rattle.bits.proofs.Binary.{bits-bytes, bits-take, bits-drop, binary-bytes, binary-at, binary-take, binary-drop}
-use Rattle.bits.proofs.LentPart.{part-length}
+use Rattle.bits.proofs.Binary.{bits-bytes, binary-bytes}
 use Rattle.bits.proofs.Refusing.{never-both}
-use Rattle.coding.specs.Checksums.{checksumOf}
-use Rattle.coding.specs.declared.checksum.CrcMode.the-variants.{Addressed}
 use Rattle.trellis.specs.declared.Outcome.{Outcome}
+use Rattle.words.specs.Words.{messageIn}
+use Rattle.words.proofs.Parts.{flag}
 use Rattle.facch.specs.Decoding.{Content, observedCount, weight, contentOf, sound, Finished, Answered, Decoding, Searched}
 
 -- ---- `finish`
-first-bit : (word : List ℕ) → getD word 0 0 < 2 → 0 < length word → eqb (getD word 0 0) 1 ≡ getD (bits word) 0 false
-first-bit [] b h = let z : ⊥ = omega arith in absurd z
-first-bit (x ∷ word) b h = let e : x % 2 ≡ x = omega arith in sym (ap (λ (y : ℕ). eqb y 1) e)
+module _ (word : List ℕ) (corrected observed dvcc : ℕ) {right : Bool} (told : right ≡ sound (bits word) dvcc) where
+  pub spoilt-end : not right ≡ true → Finished (bits word) corrected observed dvcc (refused refusal.Crc)
+  spoilt-end t = record { taken = λ s. absurd (false≢true (sym (ap not (told ∙ s)) ∙ t)); spoilt = λ s. refl }
 
-module _ (word : List ℕ) (size : length word ≡ 65) (binary : allBinary word ≡ true) where
-  pub part-binary : (n at : ℕ) → allBinary (take n (drop at word)) ≡ true
-  part-binary n at = binary-take n (drop at word) (binary-drop at word binary)
-
-  pub asks-pack : (n at : ℕ) → n ≤ 64 → (length (take n (drop at word)) ≤ 64) × (allBinary (take n (drop at word)) ≡ true)
-  asks-pack n at h = (omega (arith, length-take n (drop at word)), part-binary n at)
-
-  pub front-binary : allBinary (take 49 word) ≡ true
-  front-binary = binary-take 49 word binary
-
-  pub front-length : 49 ≡ length (take 49 word)
-  front-length = part-length 49 word (omega arith)
-
-  -- the first bit as a flag
-  pub flag : eqb (getD word 0 0) 1 ≡ getD (bits word) 0 false
-  flag = first-bit word (binary-at word binary 0 (omega arith)) (omega arith)
-
-  part-bits : (n at : ℕ) → bits (take n (drop at word)) ≡ take n (drop at (bits word))
-  part-bits n at = bits-take n (drop at word) ∙ ap (take n) (bits-drop at word)
-
-  module _ (corrected observed dvcc : ℕ) {received value : ℕ} (er : received ≡ packed (bits (take 16 (drop 49 word)))) (ev : value ≡ checksumOf (bits (take 49 word)) dvcc Addressed) where
-    sound-is : sound (bits word) dvcc ≡ eqb received value
-    unfolding sound
-    sound-is = sym (ap₂ eqb (er ∙ ap packed (part-bits 16 49)) (ev ∙ ap (λ (u : List Bool). checksumOf u dvcc Addressed) (bits-take 49 word)))
-
-    pub spoilt-end : (received ≡ value → ⊥) → Finished (bits word) corrected observed dvcc (refused refusal.Crc)
-    spoilt-end ne =
-        let f : sound (bits word) dvcc ≡ false = sound-is ∙ ne-eqb received value ne in
-        record { taken = λ t. absurd (false≢true (sym f ∙ t)); spoilt = λ s. refl }
-
-    pub taken-end : {message : ℕ} {continuation : Bool} → received ≡ value → message ≡ packed (bits (take 48 (drop 1 word))) → continuation ≡ getD (bits word) 0 false
-        → Finished (bits word) corrected observed dvcc (accepted (record { continuation = continuation; message = message; corrected = corrected; observed = observed }))
-    unfolding contentOf
-    taken-end e em ec =
-        let t : sound (bits word) dvcc ≡ true = sound-is ∙ eq-eqb received value e in
-        record {
-          taken = λ s. ap₂ (λ (c : Bool) (m : ℕ). accepted (record { continuation = c; message = m; corrected = corrected; observed = observed })) ec (em ∙ ap packed (part-bits 48 1));
-          spoilt = λ s. absurd (false≢true (sym s ∙ t));
-        }
+  pub taken-end : not right ≡ false → allBinary word ≡ true → {message : ℕ} → message ≡ messageIn 1 (bits word)
+      → Finished (bits word) corrected observed dvcc (accepted (record { continuation = eqb (getD word 0 0) 1; message = message; corrected = corrected; observed = observed }))
+  unfolding contentOf
+  taken-end t binary e =
+      record {
+        taken = λ s. ap₂ (λ (c : Bool) (m : ℕ). accepted (record { continuation = c; message = m; corrected = corrected; observed = observed })) (flag word binary 0) e;
+        spoilt = λ s. absurd (false≢true (sym t ∙ ap not (told ∙ s)));
+      }
 
 -- ---- no other answer is Ambiguous
 never : {A : Type 0} {answer other : Answer Content} → answer ≡ refused refusal.Ambiguous → answer ≡ other → (other ≡ refused refusal.Ambiguous → ⊥) → A

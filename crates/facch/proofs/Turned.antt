@@ -14,7 +14,7 @@ use Rattle.trellis.specs.Search.{Nearest, Ambiguous, Found}
 use Rattle.trellis.specs.Words.{OfLength}
 use Rattle.trellis.specs.declared.Outcome.{Outcome}
 use Rattle.tailbiting.specs.TailBiting.{erasedDiffer, tailCoded, tailWeight}
-use Rattle.facch.specs.Words.{tailBiting}
+use Rattle.facch_word.specs.Words.{tailBiting}
 use Rattle.facch.specs.Decoding.{weight, Searched}
 
 abbrev turned : List Bool → List Bool

@@ -5,23 +5,22 @@ use mathlib.Core.Bool.{Bool, true, false, cond}
 use mathlib.Core.List.{List, [], _∷_}
 use Prim.Native.Nat.{ℕ, _+_, _<_, _≤_}
 use lib.Dec.{eqb}
-use lib.ListN.{length, getD, take, drop}
+use lib.ListN.{length, getD}
 use Rattle.bits.specs.Bits.{bytes, tally}
-use Rattle.bits.specs.Numbers.{packed}
 use Rattle.bits.specs.Refusals.{Answer, accepted, refused, firstOf, exactOf, binaryOf}
 use Rattle.bits.specs.declared.Lent.{Lent}
 use Rattle.bits.specs.declared.Lent.the-variants.{Fine, Refused}
 use Rattle.bits.specs.declared.Refusal.{Refusal}
 use Rattle.bits.specs.declared.Refusal.the-variants as refusal
-use Rattle.coding.specs.Checksums.{checksumOf}
-use Rattle.coding.specs.declared.checksum.CrcMode.the-variants.{Addressed}
 use Rattle.trellis.specs.Search.{Nearest, Ambiguous}
 use Rattle.trellis.specs.Words.{OfLength}
 use Rattle.trellis.specs.declared.Outcome.{Outcome}
 use Rattle.tailbiting.specs.TailBiting.{allErasable, erasedDiffer}
+use Rattle.words.specs.Words as words
+use Rattle.words.specs.Words.{messageIn}
 use Rattle.facch.specs.declared.Decoded.{Decoded}
 use Rattle.facch.specs.declared.Decoded.the-variants as decoded
-use Rattle.facch.specs.Words.{tailBiting}
+use Rattle.facch_word.specs.Words.{tailBiting}
 
 -- ---- what was received
 -- 1 where a byte is observed
@@ -66,11 +65,11 @@ decodeAnswer (decoded.Refused why) = refused why
 -- the content of a word with its corrected and observed bits
 unfoldable pub contentOf : List Bool → ℕ → ℕ → Content
 contentOf w corrected observed =
-    record { continuation = getD w 0 false; message = packed (take 48 (drop 1 w)); corrected = corrected; observed = observed }
+    record { continuation = getD w 0 false; message = messageIn 1 w; corrected = corrected; observed = observed }
 
 -- whether the checksum in a word is that of its first 49 bits
-unfoldable pub sound : List Bool → ℕ → Bool
-sound w dvcc = eqb (packed (take 16 (drop 49 w))) (checksumOf (take 49 w) dvcc Addressed)
+abbrev pub sound : List Bool → ℕ → Bool
+sound w dvcc = words.sound 49 w dvcc
 
 -- the end of a decoding: the content where the checksum is right, else Crc
 pub record Finished (w : List Bool) (corrected observed dvcc : ℕ) (answer : Answer Content) : Type 0 where

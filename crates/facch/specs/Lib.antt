@@ -1,4 +1,2 @@
--- FACCH words: the slot order, the word and its coded bits, its decoding, and the calls.
-pub mod Wire
-pub mod Words
+-- Decoding of FACCH words.
 pub mod Decoding

@@ -7,11 +7,9 @@ use bits::both;
 use bits::exact;
 use bits::first;
 use bits::only_bits;
-use bits::pack;
-use coding::checksum::CrcMode;
-use coding::checksum::checksum_of_bits;
 use tailbiting::tail_biting;
 use trellis::Outcome;
+use words::is_sound;
 ghost use mathlib.Core.Bool.{true};
 ghost use mathlib.Core.List.{_++_};
 ghost use mathlib.Core.Path.{_≡_};
@@ -100,12 +98,11 @@ fn finish(word: &[u8], corrected: u16, observed: u16, dvcc: u8) -> Decoded
     requires { ⌜ (length (now word) ≡ 65) × (allBinary (now word) ≡ true) ⌝ }
     ensures { λ r. ⌜ Finished (bits (now (word .entry))) corrected observed dvcc (decodeAnswer r) ⌝ }
 {
-    let received = pack(&word[49..65]);
-    let checksum = checksum_of_bits(&word[..49], dvcc, CrcMode::Addressed);
-    if received != checksum as u64 {
+    let right = is_sound(49, word, dvcc);
+    if !right {
         return Decoded::Refused(Refusal::Crc);
     }
-    let message = pack(&word[1..49]);
+    let message = words::message(1, word);
     Decoded::Accepted {
         continuation: word[0] == 1,
         message,

@@ -1,8 +1,4 @@
 -- The laws.
-pub mod Tests
-pub mod Signs
-pub mod Costs
-pub mod Butterflies
 pub mod Running
 pub mod Tracing
 pub mod ScanOrder

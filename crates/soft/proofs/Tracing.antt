@@ -14,9 +14,9 @@ use Rattle.trellis.specs.Trellis.{doubles, decision}
 use Rattle.trellis.specs.Traceback.{traced}
 use Rattle.trellis.proofs.Registers.{register-high, high-bit}
 use Rattle.trellis.proofs.Survivors.{traced-word}
-use Rattle.soft.specs.Branch.{softBranch, softStart, softTrellis}
+use Rattle.soft_step.specs.Branch.{softBranch, softStart, softTrellis}
 use Rattle.soft.specs.RustOrder.{highest}
-use Rattle.soft.specs.Step.{rowsAt, Decided}
+use Rattle.soft_step.specs.Step.{rowsAt, Decided}
 use Rattle.soft.specs.Soft.{softWord}
 
 pub record Tracing (from : ℕ → ℕ → ℕ) (word₀ word : List ℕ) (state step : ℕ) : Type 0 where

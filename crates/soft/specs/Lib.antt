@@ -1,6 +1,3 @@
--- The soft-decision search: reliabilities (Reliability), its trellis (Branch), its steps (Step), the Rust's loops (RustOrder), what it finds (Soft).
-pub mod Reliability
-pub mod Branch
-pub mod Step
+-- The soft-decision search: the Rust's loops (RustOrder), what it finds (Soft).
 pub mod RustOrder
 pub mod Soft

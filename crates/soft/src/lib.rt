@@ -1,8 +1,6 @@
 // Ported from 136-bts, dcch.rs (see NOTICE): `viterbi_soft`, and the tests and the count of `decode_soft`.
 // The soft-decision search of the DCCH code over doubles: specs/Soft.antt says what it finds.
-mod reliability;
 mod rows;
-mod step;
 
 use bits::wide;
 pub use reliability::abs;
@@ -11,9 +9,9 @@ use reliability::infinity;
 pub use reliability::is_finite;
 pub use reliability::sign_count;
 use rows::narrowed;
-use step::advance;
-use step::branch_metrics;
-use step::output_pairs;
+use soft_step::advance;
+use soft_step::branch_metrics;
+use soft_step::output_pairs;
 ghost use mathlib.Core.Bool.{false};
 ghost use mathlib.Core.Path.{_≡_};
 ghost use mathlib.Core.List.{[], _∷_};
@@ -21,10 +19,10 @@ ghost use Prim.Native.Nat.{ℕ, _*_, _/_, _<_, _≤_};
 ghost use lib.ListN.{length, replicate};
 ghost use lib.Ieee.{inf};
 ghost use Rattle.trellis.specs.Traceback.{traced};
-ghost use Rattle.soft.specs.Reliability.{zeroF};
+ghost use Rattle.reliability.specs.Reliability.{zeroF};
 ghost use Rattle.soft.specs.RustOrder.{highest};
 ghost use Rattle.soft.specs.Soft.{SoftFound};
-ghost use Rattle.soft.specs.Step.{Decided, rowsAt};
+ghost use Rattle.soft_step.specs.Step.{Decided, rowsAt};
 
 // The path metrics before the first step: state 0 costs nothing, and no other is reached.
 fn start_metrics() -> [f64; 32]

@@ -19,10 +19,10 @@ use Rattle.trellis.proofs.PathWord.{last-five}
 use Rattle.trellis.proofs.Registers.{register-low}
 use Rattle.trellis.proofs.Searching.{found-to}
 use Rattle.tailbiting.specs.Rows.{costAt, RowsTo, NumbersTo}
-use Rattle.tailbiting.specs.Starts.{endOf, tailMetric}
+use Rattle.tail_search.specs.Starts.{endOf, tailMetric}
 use Rattle.tailbiting.specs.TailBiting.{erasedDiffer, tailWeight}
 use Rattle.tailbiting.proofs.Erasable.{erased-le}
-use Rattle.tailbiting.proofs.Turns.{end-below, leads-end}
+use Rattle.tail_search.proofs.Turns.{end-below, leads-end}
 
 -- ---- one place
 cost-le : (slot a b c d : ℕ) → costAt slot a b c d ≤ 4

@@ -1,5 +1,3 @@
 -- The laws.
 pub mod Erasable
-pub mod Joined
-pub mod Turns
 pub mod Branches

@@ -1,4 +1,3 @@
--- The tail-biting search: what it finds (TailBiting), the rows of branch metrics that it searches with (Rows), and the order of its starts (Starts).
+-- The tail-biting search of the FACCH code: what it finds (TailBiting), and the rows of branch metrics that it searches with (Rows).
 pub mod TailBiting
 pub mod Rows
-pub mod Starts

@@ -32,7 +32,7 @@ fn pair_row(p: &[u8; 64], q: &[u8; 64], first: u8, second: u8) -> [u16; 64]
 }
 
 // The row of each of the four pairs.
-fn pair_rows() -> [[u16; 64]; 4]
+pub fn pair_rows() -> [[u16; 64]; 4]
     ensures { λ r. ⌜ (length r ≡ 4) × PairsTo r 4 ⌝ }
 {
     let p = outputs(G0);

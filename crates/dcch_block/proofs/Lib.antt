@@ -1,0 +1,5 @@
+-- The laws.
+pub mod Finishing
+pub mod Inputs
+pub mod Encodings
+pub mod Decodings

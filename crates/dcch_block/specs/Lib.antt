@@ -1,0 +1,2 @@
+-- DCCH blocks: encoding, and decoding of received bits.
+pub mod Blocks

@@ -1,0 +1,5 @@
+-- The laws.
+pub mod Wiring
+pub mod Interleaved
+pub mod Passing
+pub mod TableRows

@@ -1,0 +1,2 @@
+-- The answer of FACCH's decoding as one definition.
+pub mod Answers

@@ -1,0 +1,8 @@
+-- The laws.
+pub mod Taps
+pub mod Shown
+pub mod Halves
+pub mod Determined
+pub mod OneAnswer
+pub mod RoundTrip
+pub mod HalfTrip

@@ -1,0 +1,146 @@
+-- `decode` of `encode` is the message, corrected 0: the word of the coded bits weighs nothing, and no other word has them.
+-- In general, where one word agrees with what was observed, that word is decoded. Assumes nothing.
+use mathlib.Core.Path.{_≡_, refl, sym, ap, ap₂, subst, _∙_}
+use mathlib.Core.Bool.{Bool, true, false}
+use mathlib.Core.List.{List, [], _∷_, _++_, reverse}
+use Prim.Native.Nat.{ℕ, _+_, _^_, _≤_, _<_}
+use native.Mathlib.Omega.{arith}
+use lib.ListN.{length, take, drop, length-append, length-drop, length-map, replicate}
+use lib.Seq.{length-take-le}
+use Rattle.bits.specs.Bits.{byte, bytes, differ, tally, disagreements}
+use Rattle.bits.specs.Numbers.{packed, unpacked}
+use Rattle.bits.specs.Refusals.{Answer, accepted, firstOf}
+use Rattle.bits.specs.declared.Lent.{Lent}
+use Rattle.bits.specs.declared.Lent.the-variants.{Fine}
+use Rattle.bits.proofs.Binary.{binary-bytes}
+use Rattle.bits.proofs.Tally.{disagreements-self, disagreements-none}
+use Rattle.coding.specs.Codes.{tapped, coded, facch}
+use Rattle.coding.specs.Checksums.{checksumOf, divided, added}
+use Rattle.coding.proofs.Coded.{coded-length}
+use Rattle.trellis.specs.Search.{Nearest, Ambiguous}
+use Rattle.trellis.specs.Words.{OfLength}
+use Rattle.tailbiting.specs.TailBiting.{erasedDiffer}
+use Rattle.bits.specs.declared.Wrote.{Wrote}
+use Rattle.words.specs.Words.{madeOf}
+use Rattle.words.proofs.Made.{made-length, made-sound, made-message}
+use Rattle.facch_word.specs.Words.{wordOf, tailBiting, Encoding}
+use Rattle.facch.specs.Decoding.{Content, seen, observedCount, weight, lentErased, lentDecode, contentOf, sound, Settled, Decoding}
+use Rattle.bits.proofs.Refusing.{exact-fine, binary-fine, below-fine}
+use Rattle.facch.proofs.Received.{binary-erasable, fine-bytes}
+use Rattle.facch_laws.proofs.Determined.{whole-determines}
+
+-- ---- a word that agrees with what was observed, where no other does
+module _ (received : List ℕ) (w : List Bool) (size : length w ≡ 65) (agrees : weight received w ≡ 0)
+    (only : (u : List Bool) → length u ≡ 65 → weight received u ≡ 0 → u ≡ w) where
+  nearest-is : (u : List Bool) → Nearest (OfLength 65) (weight received) u → u ≡ w
+  nearest-is u n = only u (n .word) (omega (arith, n .least w size))
+
+  clear : Ambiguous (OfLength 65) (weight received) → ⊥
+  clear a = a .distinct (nearest-is (a .one) (a .one-nearest) ∙ sym (nearest-is (a .other) (a .other-nearest)))
+
+  pub agreed : {lent : Lent} {dvcc : ℕ} {answer : Answer Content} → Decoding lent received dvcc answer → lent ≡ Fine → 65 ≤ observedCount received → sound w dvcc ≡ true
+      → answer ≡ accepted (contentOf w 0 (observedCount received))
+  agreed {lent} {dvcc} {answer} d fine many right =
+      let s : Settled received dvcc answer = d .answered fine .settled many clear in
+      let e : s .word ≡ w = nearest-is (s .word) (s .nearest) in
+      s .finished .taken (ap (λ (u : List Bool). sound u dvcc) e ∙ right)
+      ∙ ap₂ (λ (u : List Bool) (n : ℕ). accepted (contentOf u n (observedCount received))) e (ap (weight received) e ∙ agrees)
+
+-- ---- bits that are all observed
+pub erased-byte : (a b : Bool) → erasedDiffer a (byte b) ≡ differ a b
+unfolding erasedDiffer
+erased-byte false false = refl
+erased-byte false true = refl
+erased-byte true false = refl
+erased-byte true true = refl
+
+tally-bytes : (u w : List Bool) → tally erasedDiffer u (bytes w) ≡ disagreements u w
+unfolding tally
+tally-bytes [] w = refl
+tally-bytes (a ∷ u) [] = refl
+tally-bytes (a ∷ u) (b ∷ w) = ap₂ (λ (m n : ℕ). m + n) (erased-byte a b) (tally-bytes u w)
+
+all-observed : (w : List Bool) → observedCount (bytes w) ≡ length w
+unfolding observedCount seen
+all-observed [] = refl
+all-observed (false ∷ w) = let i : observedCount (bytes w) ≡ length w = all-observed w in omega arith
+all-observed (true ∷ w) = let i : observedCount (bytes w) ≡ length w = all-observed w in omega arith
+
+-- ---- a word of 65 bits
+module _ (w : List Bool) (size : length w ≡ 65) where
+  pub biting-length : length (tailBiting w) ≡ 260
+  unfolding tailBiting
+  biting-length =
+      coded-length facch (reverse (take 5 w)) (drop 5 w ++ take 5 w)
+      ∙ omega (arith, length-append (drop 5 w) (take 5 w), length-drop 5 w, length-take-le 5 w (omega arith))
+
+  own-weight : weight (bytes (tailBiting w)) w ≡ 0
+  unfolding weight
+  own-weight = tally-bytes (tailBiting w) (tailBiting w) ∙ disagreements-self (tailBiting w)
+
+coded-size : (w : List Bool) → length w ≡ 65 → length (bytes (tailBiting w)) ≡ 260
+coded-size w size = length-map (tailBiting w) byte ∙ biting-length w size
+
+only-own : (w u : List Bool) → length w ≡ 65 → length u ≡ 65 → weight (bytes (tailBiting w)) u ≡ 0 → u ≡ w
+unfolding weight
+only-own w u hw hu e =
+    whole-determines u w hu hw
+    (disagreements-none (tailBiting u) (tailBiting w) (biting-length u hu ∙ sym (biting-length w hw)) (sym (tally-bytes (tailBiting u) (tailBiting w)) ∙ e))
+
+pub fine-decode : (w : List Bool) → length w ≡ 65 → lentDecode (bytes (tailBiting w)) ≡ Fine
+fine-decode w h = ap₂ firstOf (exact-fine 260 (length (bytes (tailBiting w))) (coded-size w h)) (binary-fine (bytes (tailBiting w)) (binary-bytes (tailBiting w)))
+
+pub fine-erased : (w : List Bool) → length w ≡ 65 → lentErased (bytes (tailBiting w)) ≡ Fine
+fine-erased w h = fine-bytes (bytes (tailBiting w)) (coded-size w h) (binary-erasable (bytes (tailBiting w)) (binary-bytes (tailBiting w)))
+
+-- ---- the word of a message
+module _ (continuation : Bool) (message dvcc : ℕ) where
+  pub word-length : length (wordOf continuation message dvcc) ≡ 65
+  word-length = made-length (continuation ∷ []) message dvcc
+
+  pub sound-own : sound (wordOf continuation message dvcc) dvcc ≡ true
+  sound-own = made-sound (continuation ∷ []) message dvcc refl
+
+  pub content-own : (observed : ℕ) → message < 2 ^ 48
+      → contentOf (wordOf continuation message dvcc) 0 observed ≡ record { continuation = continuation; message = message; corrected = 0; observed = observed }
+  unfolding contentOf madeOf
+  content-own observed h = ap (λ (n : ℕ). record { continuation = continuation; message = n; corrected = 0; observed = observed }) (made-message (continuation ∷ []) message dvcc refl h)
+
+  -- a word's own coded bits, taken by either call
+  own-bits : (lent : Lent) → lent ≡ Fine → message < 2 ^ 48 → {answer : Answer Content} → Decoding lent (bytes (tailBiting (wordOf continuation message dvcc))) dvcc answer
+      → answer ≡ accepted (record { continuation = continuation; message = message; corrected = 0; observed = 260 })
+  own-bits lent fine h d =
+      let w : List Bool = wordOf continuation message dvcc in
+      let size : length w ≡ 65 = word-length in
+      let n : observedCount (bytes (tailBiting w)) ≡ 260 = all-observed (tailBiting w) ∙ biting-length w size in
+      agreed (bytes (tailBiting w)) w size (own-weight w size) (λ u hu e. only-own w u size hu e) d fine (omega (arith, n)) sound-own
+      ∙ ap accepted (ap (λ (k : ℕ). contentOf w 0 k) n ∙ content-own 260 h)
+
+  module _ (h : message < 2 ^ 48) {coded₀ coded : List ℕ} (r : Wrote) (room : length coded₀ ≡ 260) (e : Encoding continuation message dvcc coded₀ coded r) where
+    pub written : coded ≡ bytes (tailBiting (wordOf continuation message dvcc))
+    written = e .done (ap₂ firstOf (exact-fine 260 (length coded₀) room) (below-fine (2 ^ 48) message h)) .1
+
+    -- what `encode` writes, `decode` reads
+    pub round-trip : {answer : Answer Content} → Decoding (lentDecode coded) coded dvcc answer
+        → answer ≡ accepted (record { continuation = continuation; message = message; corrected = 0; observed = 260 })
+    round-trip {answer} d =
+        own-bits (lentDecode (bytes (tailBiting (wordOf continuation message dvcc)))) (fine-decode (wordOf continuation message dvcc) word-length) h
+        (subst (λ (l : List ℕ). Decoding (lentDecode l) l dvcc answer) written d)
+
+    -- and so does `decode_erased`
+    pub round-trip-erased : {answer : Answer Content} → Decoding (lentErased coded) coded dvcc answer
+        → answer ≡ accepted (record { continuation = continuation; message = message; corrected = 0; observed = 260 })
+    round-trip-erased {answer} d =
+        own-bits (lentErased (bytes (tailBiting (wordOf continuation message dvcc)))) (fine-erased (wordOf continuation message dvcc) word-length) h
+        (subst (λ (l : List ℕ). Decoding (lentErased l) l dvcc answer) written d)
+
+-- ---- document 01: 260 zeros under the colour code 0 are a zero message
+zeros : bytes (tailBiting (wordOf false 0 0)) ≡ replicate 260 0
+unfolding tailBiting coded tapped madeOf checksumOf divided added packed unpacked
+zeros = refl
+
+pub zero-message : {answer : Answer Content} → Decoding (lentDecode (replicate 260 0)) (replicate 260 0) 0 answer
+    → answer ≡ accepted (record { continuation = false; message = 0; corrected = 0; observed = 260 })
+zero-message {answer} d =
+    own-bits false 0 0 (lentDecode (bytes (tailBiting (wordOf false 0 0)))) (fine-decode (wordOf false 0 0) (word-length false 0 0)) (omega arith)
+    (subst (λ (l : List ℕ). Decoding (lentDecode l) l 0 answer) (sym zeros) d)

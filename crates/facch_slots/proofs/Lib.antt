@@ -1,0 +1,8 @@
+-- The laws.
+pub mod Table
+pub mod Columns
+pub mod Passing
+pub mod Spreading
+pub mod Answering
+pub mod Interleaved
+pub mod TableRows

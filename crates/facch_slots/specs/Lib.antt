@@ -1,0 +1,2 @@
+-- The slots that carry FACCH words.
+pub mod Wire

@@ -1,0 +1,3 @@
+-- The laws.
+pub mod WordBits
+pub mod Biting

@@ -1,0 +1,2 @@
+-- FACCH words and their coded bits.
+pub mod Words

@@ -1,0 +1,4 @@
+-- The laws.
+pub mod AllWords
+pub mod Lightest
+pub mod Members

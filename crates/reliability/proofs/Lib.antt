@@ -1,0 +1,3 @@
+-- The laws.
+pub mod Tests
+pub mod Signs

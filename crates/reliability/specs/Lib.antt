@@ -1,0 +1,2 @@
+-- Reliabilities: finite ones, signs, and what a coded bit costs.
+pub mod Reliability

@@ -1,0 +1,3 @@
+-- The laws.
+pub mod Costs
+pub mod Butterflies

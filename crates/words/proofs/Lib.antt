@@ -1,0 +1,4 @@
+-- The laws.
+pub mod Parts
+pub mod Made
+pub mod Writing

@@ -1,0 +1,2 @@
+-- The words of FACCH and SACCH.
+pub mod Words

@@ -1,0 +1,27 @@
+-- The words of FACCH and SACCH (IS-54-B 2.7.3.1.1 and 2.7.3.1.2): a header of one or two bits, 48 message bits, and the checksum of both.
+-- Bits oldest first.
+use mathlib.Core.Bool.{Bool}
+use mathlib.Core.List.{List, _++_}
+use Prim.Native.Nat.{ℕ}
+use lib.Dec.{eqb}
+use lib.ListN.{take, drop}
+use Rattle.bits.specs.Numbers.{packed, unpacked}
+use Rattle.coding.specs.Checksums.{checksumOf}
+use Rattle.coding.specs.declared.checksum.CrcMode.the-variants.{Addressed}
+
+-- the header and the message, the highest bit first
+abbrev pub informationOf : List Bool → ℕ → List Bool
+informationOf header message = header ++ unpacked 48 message
+
+-- a word: the information and its checksum under the colour code, the highest bit first
+unfoldable pub madeOf : List Bool → ℕ → ℕ → List Bool
+madeOf header message dvcc =
+    informationOf header message ++ unpacked 16 (checksumOf (informationOf header message) dvcc Addressed)
+
+-- whether the checksum in a word is that of its first n bits, after which it stands
+unfoldable pub sound : ℕ → List Bool → ℕ → Bool
+sound n w dvcc = eqb (packed (take 16 (drop n w))) (checksumOf (take n w) dvcc Addressed)
+
+-- the message after a header of h bits, as a number with its first bit highest
+abbrev pub messageIn : ℕ → List Bool → ℕ
+messageIn h w = packed (take 48 (drop h w))
