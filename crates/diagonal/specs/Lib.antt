@@ -1,0 +1,2 @@
+-- The diagonal interleaver of SACCH.
+pub mod Diagonal

@@ -1,0 +1,3 @@
+-- What holds of SACCH's encoder, decoder and receiver together.
+pub mod Calls
+pub mod Listening

@@ -1,0 +1,6 @@
+-- The laws.
+pub mod NewestFive
+pub mod Received
+pub mod Meaning
+pub mod Settling
+pub mod Weighing

@@ -1,0 +1,106 @@
+-- What a decoding means in the terms of trellis/specs/Search.antt: Ambiguous exactly where two distinct words are nearest; else the nearest word decides.
+-- Assumes nothing.
+use mathlib.Core.Path.{_≡_, refl, sym, ap, _∙_}
+use mathlib.Core.Bool.{Bool, true, false, cond}
+use mathlib.Core.List.{List, [], _∷_, reverse}
+use Prim.Native.Nat.{ℕ, _≤_}
+use native.Mathlib.Omega.{arith}
+use lib.Dec.{eqb}
+use lib.ListN.{length, getD}
+use borrow.Author.Tests.{eqb-false, ne-eqb}
+use Rattle.bits.specs.Refusals.{Answer, accepted, refused}
+use Rattle.bits.specs.declared.Refusal.{Refusal}
+use Rattle.bits.specs.declared.Refusal.the-variants as refusal
+use Rattle.trellis.specs.Search.{Nearest, Ambiguous}
+use Rattle.trellis.specs.Words.{OfLength}
+use Rattle.viterbi.specs.Hard.{freeWeight}
+use Rattle.nearest.specs.Nearest.{nearestWords}
+use Rattle.nearest.proofs.Members.{alone, shared, shared-back, some-nearest, at-least-one}
+use Rattle.sacch_decoder.specs.Decoding.{sound, contentOf, finished, nearestTo, decodeOf}
+use Rattle.sacch_decoder.specs.declared.SacchWord.{SacchWord}
+
+-- ---- one word
+-- two answers that are told apart
+clash : {A : Type 0} {x : SacchWord} {why : Refusal} {a : Answer SacchWord} → a ≡ accepted x → a ≡ refused why → A
+clash e f = let z : _≡_ {A = ℕ} 0 1 = cc in absurd (omega arith)
+
+module _ (w : List Bool) (corrected dvcc : ℕ) where
+  -- no end of it is Ambiguous
+  finished-clear : finished w corrected dvcc ≡ refused refusal.Ambiguous → ⊥
+  unfolding finished
+  finished-clear = by (getD w 1 false) (sound w dvcc)
+    where
+      by : (reserved right : Bool) → cond reserved (refused refusal.Reserved) (cond right (accepted (contentOf w corrected)) (refused refusal.Crc)) ≡ refused refusal.Ambiguous → ⊥
+      by true right e = let z : _≡_ {A = ℕ} 0 1 = cc in omega arith
+      by false true e = let z : _≡_ {A = ℕ} 0 1 = cc in omega arith
+      by false false e = let z : _≡_ {A = ℕ} 0 1 = cc in omega arith
+
+  pub record Taken (x : SacchWord) : Type 0 where
+    pub reserved : getD w 1 false ≡ false
+    pub right : sound w dvcc ≡ true
+    pub content : x ≡ contentOf w corrected
+
+  -- where it is accepted
+  pub finished-taken : {x : SacchWord} → finished w corrected dvcc ≡ accepted x → Taken x
+  unfolding finished
+  finished-taken {x} = by (getD w 1 false) refl (sound w dvcc) refl
+    where
+      by : (reserved : Bool) → getD w 1 false ≡ reserved → (right : Bool) → sound w dvcc ≡ right
+          → cond reserved (refused refusal.Reserved) (cond right (accepted (contentOf w corrected)) (refused refusal.Crc)) ≡ accepted x → Taken x
+      by true a right b e = clash e refl
+      by false a true b e = record { reserved = a; right = b; content = cc }
+      by false a false b e = clash e refl
+
+  pub taken-finished : getD w 1 false ≡ false → sound w dvcc ≡ true → finished w corrected dvcc ≡ accepted (contentOf w corrected)
+  unfolding finished
+  taken-finished a b = rw (a, b)
+
+-- ---- the received bits
+module _ (received : List Bool) (dvcc : ℕ) where
+  -- by the list of the nearest words
+  pub decode-one : {w : List Bool} → nearestWords 66 (freeWeight received) ≡ w ∷ [] → decodeOf received dvcc ≡ finished (reverse w) (freeWeight received w) dvcc
+  unfolding decodeOf nearestTo
+  decode-one =
+      ap (λ (ws : List (List Bool)). cond (eqb (length ws) 1) (finished (reverse (getD ws 0 [])) (freeWeight received (getD ws 0 [])) dvcc) (refused refusal.Ambiguous))
+
+  pub decode-more : (length (nearestWords 66 (freeWeight received)) ≡ 1 → ⊥) → decodeOf received dvcc ≡ refused refusal.Ambiguous
+  unfolding decodeOf nearestTo
+  decode-more n = rw (ne-eqb (length (nearestWords 66 (freeWeight received))) 1 n)
+
+  pub ambiguous : Ambiguous (OfLength 66) (freeWeight received) → decodeOf received dvcc ≡ refused refusal.Ambiguous
+  ambiguous a = decode-more (λ e. let h : 2 ≤ length (nearestWords 66 (freeWeight received)) = shared 66 (freeWeight received) a in omega arith)
+
+  pub only-ambiguous : decodeOf received dvcc ≡ refused refusal.Ambiguous → Ambiguous (OfLength 66) (freeWeight received)
+  unfolding decodeOf nearestTo
+  only-ambiguous = by (eqb (length (nearestWords 66 (freeWeight received))) 1) refl
+    where
+      by : (single : Bool) → eqb (length (nearestWords 66 (freeWeight received))) 1 ≡ single
+          → cond single (finished (reverse (getD (nearestWords 66 (freeWeight received)) 0 [])) (freeWeight received (getD (nearestWords 66 (freeWeight received)) 0 [])) dvcc) (refused refusal.Ambiguous)
+          ≡ refused refusal.Ambiguous → Ambiguous (OfLength 66) (freeWeight received)
+      by true s e = absurd (finished-clear _ _ _ e)
+      by false s e =
+          let n : length (nearestWords 66 (freeWeight received)) ≡ 1 → ⊥ = eqb-false (length (nearestWords 66 (freeWeight received))) 1 s in
+          shared-back 66 (freeWeight received) (omega (arith, at-least-one 66 (freeWeight received)))
+
+  -- the nearest word, where it is alone, decides
+  pub settled : {w : List Bool} → Nearest (OfLength 66) (freeWeight received) w → (Ambiguous (OfLength 66) (freeWeight received) → ⊥)
+      → decodeOf received dvcc ≡ finished (reverse w) (freeWeight received w) dvcc
+  settled n none = decode-one (alone 66 (freeWeight received) n none)
+
+  -- and there is one
+  pub one-settled : (Ambiguous (OfLength 66) (freeWeight received) → ⊥)
+      → (w : List Bool) × Nearest (OfLength 66) (freeWeight received) w × (decodeOf received dvcc ≡ finished (reverse w) (freeWeight received w) dvcc)
+  one-settled none = let r = some-nearest 66 (freeWeight received) in (r .0, r .1, settled (r .1) none)
+
+  -- an accepted word: one word alone is nearest, its second bit is zero and its checksum is right
+  pub record Accepted (x : SacchWord) : Type 0 where
+    pub word : List Bool
+    pub nearest : Nearest (OfLength 66) (freeWeight received) word
+    pub single : Ambiguous (OfLength 66) (freeWeight received) → ⊥
+    pub taken : Taken (reverse word) (freeWeight received word) dvcc x
+
+  pub accepted-word : {x : SacchWord} → decodeOf received dvcc ≡ accepted x → Accepted x
+  accepted-word {x} e =
+      let none : Ambiguous (OfLength 66) (freeWeight received) → ⊥ = λ a. clash e (ambiguous a) in
+      let r = one-settled none in
+      record { word = r .0; nearest = r .1; single = none; taken = finished-taken (reverse (r .0)) (freeWeight received (r .0)) dvcc (sym (r .2) ∙ e) }

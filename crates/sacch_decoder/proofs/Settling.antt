@@ -1,0 +1,70 @@
+-- The ways out of a decoding. Assumes nothing.
+use mathlib.Core.Path.{_≡_, refl, sym, ap, ap₂, _∙_}
+use mathlib.Core.Bool.{Bool, true, false, cond}
+use mathlib.Core.List.{List, reverse}
+use Prim.Native.Nat.{ℕ}
+use lib.Dec.{eqb}
+use lib.ListN.{length, getD, take, length-map, length-reverse}
+use Rattle.bits.specs.Bits.{byte, bits, allBinary}
+use Rattle.bits.specs.Numbers.{packed}
+use Rattle.bits.specs.Refusals.{Answer, accepted, refused}
+use Rattle.bits.specs.declared.Lent.{Lent}
+use Rattle.bits.specs.declared.Lent.the-variants.{Fine, Refused}
+use Rattle.bits.specs.declared.Refusal.{Refusal}
+use Rattle.bits.specs.declared.Refusal.the-variants as refusal
+use Rattle.bits.proofs.Binary.{bits-bytes, binary-bytes}
+use Rattle.trellis.specs.Search.{Found}
+use Rattle.trellis.specs.Words.{OfLength}
+use Rattle.trellis.specs.declared.Outcome.{Outcome}
+use Rattle.viterbi.specs.Hard.{freeWeight}
+use Rattle.words.specs.Words.{messageIn}
+use Rattle.words.proofs.Parts.{flag}
+use Rattle.nearest.proofs.Members.{found-alone, found-shared}
+use Rattle.sacch_decoder.specs.Decoding.{sound, contentOf, finished, decodeOf, lentDecode, decoding}
+use Rattle.sacch_decoder.specs.declared.SacchWord.{SacchWord}
+use Rattle.sacch_decoder.proofs.Meaning.{decode-one, decode-more}
+
+module _ (word : List ℕ) (binary : allBinary word ≡ true) where
+  -- ---- `content`
+  pub content-is : (corrected : ℕ) {message ending : ℕ} → message ≡ messageIn 2 (bits word) → ending ≡ packed (take 5 (reverse (bits word)))
+      → record { continuation = eqb (getD word 0 0) 1; message = message; corrected = corrected; ending = ending } ≡ contentOf (bits word) corrected
+  unfolding contentOf
+  content-is corrected em ee = λ i. record {
+    continuation = flag word binary 0 i;
+    message = em i;
+    corrected = corrected;
+    ending = ee i;
+  }
+
+  -- ---- `finish`
+  pub finished-is : (tie : Bool) (corrected dvcc : ℕ) {right : Bool} {x : SacchWord} → right ≡ sound (bits word) dvcc → x ≡ contentOf (bits word) corrected
+      → cond tie (refused refusal.Ambiguous) (cond (eqb (getD word 1 0) 1) (refused refusal.Reserved) (cond right (accepted x) (refused refusal.Crc)))
+      ≡ cond tie (refused refusal.Ambiguous) (finished (bits word) corrected dvcc)
+  unfolding finished
+  finished-is tie corrected dvcc er ex = λ i. cond tie (refused refusal.Ambiguous)
+      (cond (flag word binary 1 i) (refused refusal.Reserved) (cond (er i) (accepted (ex i)) (refused refusal.Crc)))
+
+-- ---- `answer`
+module _ (coded : List ℕ) {word : List ℕ} {r : Outcome} (f : Found (OfLength 66) (freeWeight (bits coded)) word r) where
+  pub found-word : (length word ≡ 66) × (allBinary word ≡ true)
+  found-word = (
+    ap length (f .written) ∙ length-map (reverse (f .word)) byte ∙ length-reverse (f .word) ∙ f .nearest .word,
+    ap allBinary (f .written) ∙ binary-bytes (reverse (f .word)),
+  )
+
+  pub found-decides : (dvcc : ℕ) → cond (r .tie) (refused refusal.Ambiguous) (finished (bits word) (r .metric) dvcc) ≡ decodeOf (bits coded) dvcc
+  found-decides dvcc = by (r .tie) refl
+    where
+      by : (tie : Bool) → r .tie ≡ tie → cond tie (refused refusal.Ambiguous) (finished (bits word) (r .metric) dvcc) ≡ decodeOf (bits coded) dvcc
+      by true t = sym (decode-more (bits coded) dvcc (found-shared f t))
+      by false t =
+          ap₂ (λ (w : List Bool) (n : ℕ). finished w n dvcc) (ap bits (f .written) ∙ bits-bytes (reverse (f .word))) (f .metric)
+          ∙ sym (decode-one (bits coded) dvcc (found-alone f t))
+
+-- ---- `decode`
+module _ (coded : List ℕ) (dvcc : ℕ) {l : Lent} (told : l ≡ lentDecode coded) where
+  pub declined-end : (why : Refusal) → l ≡ Refused why → refused why ≡ decoding (lentDecode coded) coded dvcc
+  declined-end why e = ap (λ (x : Lent). decoding x coded dvcc) (sym e ∙ told)
+
+  pub answered-end : l ≡ Fine → {answer : Answer SacchWord} → answer ≡ decodeOf (bits coded) dvcc → answer ≡ decoding (lentDecode coded) coded dvcc
+  answered-end fine e = e ∙ ap (λ (x : Lent). decoding x coded dvcc) (sym fine ∙ told)

@@ -1,0 +1,59 @@
+-- Decoding of a word (IS-54-B 2.7.3.1.2): the nearest of all words of 66 bits, from whatever memory the encoder was in. Bits oldest first.
+use mathlib.Core.Bool.{Bool, false, cond}
+use mathlib.Core.List.{List, [], reverse}
+use Prim.Native.Nat.{ℕ}
+use lib.Dec.{eqb}
+use lib.ListN.{length, getD, take}
+use Rattle.bits.specs.Bits.{bits}
+use Rattle.bits.specs.Numbers.{packed}
+use Rattle.bits.specs.Refusals.{Answer, accepted, refused, firstOf, exactOf, binaryOf}
+use Rattle.bits.specs.declared.Lent.{Lent}
+use Rattle.bits.specs.declared.Lent.the-variants.{Fine, Refused}
+use Rattle.bits.specs.declared.Refusal.the-variants as refusal
+use Rattle.words.specs.Words as words
+use Rattle.words.specs.Words.{messageIn}
+use Rattle.viterbi.specs.Hard.{freeWeight}
+use Rattle.nearest.specs.Nearest.{nearestWords}
+use Rattle.sacch_decoder.specs.declared.SacchWord.{SacchWord}
+use Rattle.sacch_decoder.specs.declared.Decoded.{Decoded}
+use Rattle.sacch_decoder.specs.declared.Decoded.the-variants as decoded
+
+-- what each answer is to document 01
+abbrev pub decodeAnswer : Decoded → Answer SacchWord
+decodeAnswer (decoded.Accepted word) = accepted word
+decodeAnswer (decoded.Refused why) = refused why
+
+-- ---- one word
+-- whether the checksum in a word is that of its first 50 bits
+abbrev pub sound : List Bool → ℕ → Bool
+sound w dvcc = words.sound 50 w dvcc
+
+-- the content of a word that has so many disagreements; the memory that it leaves is its last five bits, the newest highest
+unfoldable pub contentOf : List Bool → ℕ → SacchWord
+contentOf w corrected =
+    record { continuation = getD w 0 false; message = messageIn 2 w; corrected = corrected; ending = packed (take 5 (reverse w)) }
+
+-- Reserved where its second bit is set, then Crc where its checksum differs
+unfoldable pub finished : List Bool → ℕ → ℕ → Answer SacchWord
+finished w corrected dvcc =
+    cond (getD w 1 false) (refused refusal.Reserved) (cond (sound w dvcc) (accepted (contentOf w corrected)) (refused refusal.Crc))
+
+-- ---- the received bits
+-- The words of 66 bits, newest first, with the fewest disagreements over the 32 starting memories.
+unfoldable pub nearestTo : List Bool → List (List Bool)
+nearestTo received = nearestWords 66 (freeWeight received)
+
+-- One word alone weighs least and is the answer, with its disagreements; where more share the least, Ambiguous.
+unfoldable pub decodeOf : List Bool → ℕ → Answer SacchWord
+decodeOf received dvcc =
+    cond (eqb (length (nearestTo received)) 1)
+    (finished (reverse (getD (nearestTo received) 0 [])) (freeWeight received (getD (nearestTo received) 0 [])) dvcc)
+    (refused refusal.Ambiguous)
+
+-- ---- the call: the length, then the symbols
+abbrev pub lentDecode : List ℕ → Lent
+lentDecode coded = firstOf (exactOf 132 (length coded)) (binaryOf coded)
+
+abbrev pub decoding : Lent → List ℕ → ℕ → Answer SacchWord
+decoding (Refused why) coded dvcc = refused why
+decoding Fine coded dvcc = decodeOf (bits coded) dvcc

@@ -1,0 +1,2 @@
+-- Decoding of SACCH words.
+pub mod Decoding

@@ -1,0 +1,4 @@
+-- The laws of the receiver that other crates cite.
+pub mod Unrolled
+pub mod Fitting
+pub mod Found

@@ -1,0 +1,2 @@
+-- The SACCH receiver.
+pub mod Receiver

@@ -1,0 +1,185 @@
+-- The receiver's calls on values.
+use mathlib.Core.Bool.{Bool, true, false, cond}
+use mathlib.Core.List.{List, [], _∷_, _++_}
+use Prim.Native.Nat.{ℕ, _+_, _%_, min}
+use lib.Dec.{ltb, eqb}
+use lib.ListN.{getD, set, replicate}
+use Rattle.bits.specs.Numbers.{unpacked}
+use Rattle.bits.specs.Places.{listed}
+use Rattle.bits.specs.Refusals.{Answer, accepted, pending, rejected, refused, firstOf, belowOf}
+use Rattle.bits.specs.declared.Lent.{Lent}
+use Rattle.bits.specs.declared.Lent.the-variants.{Fine, Refused}
+use Rattle.bits.specs.declared.Refusal.the-variants.{State}
+use Rattle.diagonal.specs.Diagonal.{allTwelve, rowOf}
+use Rattle.sacch_decoder.specs.Decoding.{decodeOf}
+use Rattle.sacch_decoder.specs.declared.SacchWord.{SacchWord}
+use Rattle.sacch_receiver.specs.declared.SacchReceiver.{SacchReceiver}
+use Rattle.sacch_receiver.specs.declared.Lock.{Lock}
+use Rattle.sacch_receiver.specs.declared.Lock.the-variants.{Unlocked, Locked}
+use Rattle.sacch_receiver.specs.declared.Row.{Row}
+use Rattle.sacch_receiver.specs.declared.Row.the-variants.{Missing, Complete}
+use Rattle.sacch_receiver.specs.declared.ReceiveOutcome.{ReceiveOutcome}
+use Rattle.sacch_receiver.specs.declared.ReceiveOutcome.the-variants as outcome
+use Rattle.sacch_receiver.specs.declared.Pushed.{Pushed}
+use Rattle.sacch_receiver.specs.declared.Heard.{Heard}
+use Rattle.sacch_receiver.specs.declared.Heard.the-variants as heard
+use Rattle.sacch_receiver.specs.declared.PushedWord.{PushedWord}
+
+-- ---- the state
+unfoldable pub freshReceiver : SacchReceiver
+freshReceiver = record {
+  fields = replicate 12 0;
+  «field_cursor» = 0;
+  received = 0;
+  rows = replicate 11 0;
+  «row_cursor» = 0;
+  available = 0;
+  phase = 0;
+  lock = Unlocked;
+}
+
+abbrev pub lockFits : Lock → Bool
+lockFits Unlocked = true
+lockFits (Locked phase) = ltb phase 11
+
+-- document 01, 'Numbers from the state': the states that refusal 8 lets pass
+unfoldable pub receiverFits : SacchReceiver → Bool
+receiverFits r =
+    cond (ltb (r .«field_cursor») 12) (cond (ltb (r .received) 13) (cond (ltb (r .«row_cursor») 11) (cond (ltb (r .available) 12)
+    (cond (ltb (r .phase) 11) (cond (lockFits (r .lock)) (cond (allTwelve (r .fields)) (allTwelve (r .rows)) false) false) false) false) false) false) false
+
+abbrev pub receiverState : SacchReceiver → Lent
+receiverState r = cond (receiverFits r) Fine (Refused State)
+
+-- ---- one field
+-- it takes the place of the oldest
+unfoldable pub fieldStored : SacchReceiver → ℕ → SacchReceiver
+fieldStored r field = record {
+  fields = set (r .fields) (r .«field_cursor») field;
+  «field_cursor» = (r .«field_cursor» + 1) % 12;
+  received = min 12 (r .received + 1);
+  rows = r .rows;
+  «row_cursor» = r .«row_cursor»;
+  available = r .available;
+  phase = r .phase;
+  lock = r .lock;
+}
+
+-- what the stored fields give: with twelve received, the row that the newest completes
+unfoldable pub rowFound : SacchReceiver → Row
+rowFound r = cond (ltb (r .received) 12) Missing (Complete (rowOf (r .fields) (r .«field_cursor»)))
+
+-- the row of twelve fields takes the place of the oldest row, and the phase goes on
+unfoldable pub rowStored : SacchReceiver → ℕ → SacchReceiver
+rowStored r row = record {
+  fields = r .fields;
+  «field_cursor» = r .«field_cursor»;
+  received = r .received;
+  rows = set (r .rows) (r .«row_cursor») row;
+  «row_cursor» = (r .«row_cursor» + 1) % 11;
+  available = min 11 (r .available + 1);
+  phase = (r .phase + 1) % 11;
+  lock = r .lock;
+}
+
+unfoldable pub locked : SacchReceiver → Lock → SacchReceiver
+locked r lock = record {
+  fields = r .fields;
+  «field_cursor» = r .«field_cursor»;
+  received = r .received;
+  rows = r .rows;
+  «row_cursor» = r .«row_cursor»;
+  available = r .available;
+  phase = r .phase;
+  lock = lock;
+}
+
+-- ---- a trial
+-- the bits of rows one after the other
+unfoldable pub rowBits : List ℕ → List Bool
+rowBits [] = []
+rowBits (row ∷ rows) = unpacked 12 row ++ rowBits rows
+
+-- the eleven stored rows, oldest first
+unfoldable pub windowOf : List ℕ → ℕ → List ℕ
+windowOf rows next = listed 11 (λ (i : ℕ). getD rows ((next + i) % 11) 0)
+
+-- what eleven rows decode to
+unfoldable pub decodeRows : List ℕ → ℕ → Answer SacchWord
+decodeRows rows dvcc = decodeOf (rowBits rows) dvcc
+
+-- unlocked, each phase is tried; locked, that one
+abbrev pub tries : Lock → ℕ → Bool
+tries Unlocked phase = true
+tries (Locked at) phase = eqb at phase
+
+-- a refusal of rows already stored is a rejection
+abbrev pub trialAnswer : Answer SacchWord → Answer SacchWord
+trialAnswer (accepted word) = accepted word
+trialAnswer pending = pending
+trialAnswer (rejected why) = rejected why
+trialAnswer (refused why) = rejected why
+
+-- a word sets the lock, anything else drops it
+abbrev pub trialLock : Answer SacchWord → ℕ → Lock
+trialLock (accepted word) phase = Locked phase
+trialLock pending phase = Unlocked
+trialLock (rejected why) phase = Unlocked
+trialLock (refused why) phase = Unlocked
+
+-- ---- the calls: what they answer to document 01, and the receiver after them
+pub record Moved : Type 0 where
+  pub answer : Answer SacchWord
+  pub receiver : SacchReceiver
+
+abbrev pub outcomeAnswer : ReceiveOutcome → Answer SacchWord
+outcomeAnswer outcome.Pending = pending
+outcomeAnswer (outcome.Word word) = accepted word
+outcomeAnswer (outcome.Rejected why) = rejected why
+outcomeAnswer (outcome.Refused why) = refused why
+
+abbrev pub moved : Pushed → Moved
+moved p = record { answer = outcomeAnswer (p .outcome); receiver = p .receiver }
+
+-- The rows are tried where eleven are there and the lock lets their phase.
+unfoldable pub tried : SacchReceiver → ℕ → Moved
+tried r dvcc =
+    cond (ltb (r .available) 11) (record { answer = pending; receiver = r })
+    (cond (tries (r .lock) (r .phase))
+    (record {
+      answer = trialAnswer (decodeRows (windowOf (r .rows) (r .«row_cursor»)) dvcc);
+      receiver = locked r (trialLock (decodeRows (windowOf (r .rows) (r .«row_cursor»)) dvcc) (r .phase));
+    })
+    (record { answer = pending; receiver = r }))
+
+-- a field of twelve bits: with twelve received it completes a row, which is stored and tried
+unfoldable pub stepOf : SacchReceiver → ℕ → ℕ → Moved
+stepOf r field dvcc =
+    cond (ltb (fieldStored r field .received) 12) (record { answer = pending; receiver = fieldStored r field })
+    (tried (rowStored (fieldStored r field) (rowOf (fieldStored r field .fields) (fieldStored r field .«field_cursor»))) dvcc)
+
+-- State, then Symbol where the field is above 4095; both leave the receiver
+abbrev pub pushing : Lent → SacchReceiver → Moved → Moved
+pushing (Refused why) r m = record { answer = refused why; receiver = r }
+pushing Fine r m = m
+
+unfoldable pub pushOf : SacchReceiver → ℕ → ℕ → Moved
+pushOf r field dvcc = pushing (firstOf (receiverState r) (belowOf 4096 field)) r (stepOf r field dvcc)
+
+-- ---- the wrapper: Pending and rejections alike are nothing
+abbrev pub heardAnswer : Heard → Answer SacchWord
+heardAnswer heard.Nothing = pending
+heardAnswer (heard.Word word) = accepted word
+heardAnswer (heard.Refused why) = refused why
+
+abbrev pub movedWord : PushedWord → Moved
+movedWord p = record { answer = heardAnswer (p .heard); receiver = p .receiver }
+
+abbrev pub wordOnly : Answer SacchWord → Answer SacchWord
+wordOnly (accepted word) = accepted word
+wordOnly pending = pending
+wordOnly (rejected why) = pending
+wordOnly (refused why) = refused why
+
+unfoldable pub pushWordOf : SacchReceiver → ℕ → ℕ → Moved
+pushWordOf r field dvcc = record { answer = wordOnly (pushOf r field dvcc .answer); receiver = pushOf r field dvcc .receiver }

@@ -1,0 +1,227 @@
+// The receiver's calls. A record goes in by value and comes back; the last call is lent it.
+// Ported from 136-bts, sacch.rs, and changed (see NOTICE).
+use crate::Heard;
+use crate::Lock;
+use crate::Pushed;
+use crate::PushedWord;
+use crate::ReceiveOutcome;
+use crate::Row;
+use crate::SacchReceiver;
+use crate::state::lock_tries;
+use crate::state::receiver_fits;
+use crate::window::decode_window;
+use bits::Refusal;
+use diagonal::row_of;
+use sacch_decoder::Decoded;
+ghost use mathlib.Core.Path.{_≡_};
+ghost use Prim.Native.Nat.{_+_, _<_, min};
+ghost use Rattle.sacch_decoder.specs.Decoding.{decodeAnswer};
+ghost use Rattle.sacch_receiver.specs.Receiver.{fieldStored, freshReceiver, heardAnswer, locked, moved, movedWord, outcomeAnswer, pushOf, pushWordOf, rowFound, rowStored, stepOf, trialAnswer, trialLock, tried, wordOnly};
+
+// One more, up to most.
+fn one_more(n: usize, most: usize) -> usize
+    ensures { λ r. ⌜ r ≡ min most (n + 1) ⌝ }
+{
+    if n < most { n + 1 } else { most }
+}
+
+// The word alone: Pending and rejections alike are nothing.
+fn word_only(outcome: ReceiveOutcome) -> Heard
+    ensures { λ r. ⌜ heardAnswer r ≡ wordOnly (outcomeAnswer outcome) ⌝ }
+{
+    match outcome {
+        ReceiveOutcome::Pending => Heard::Nothing,
+        ReceiveOutcome::Word(word) => Heard::Word(word),
+        ReceiveOutcome::Rejected(_) => Heard::Nothing,
+        ReceiveOutcome::Refused(why) => Heard::Refused(why),
+    }
+}
+
+impl SacchReceiver {
+    // A receiver that has heard nothing.
+    pub fn new() -> SacchReceiver
+        ensures { λ r. ⌜ r ≡ freshReceiver ⌝ }
+    {
+        SacchReceiver {
+            fields: [0u16; 12],
+            field_cursor: 0,
+            received: 0,
+            rows: [0u16; 11],
+            row_cursor: 0,
+            available: 0,
+            phase: 0,
+            lock: Lock::Unlocked,
+        }
+    }
+
+    // After a gap or a handoff: all that was heard is forgotten, whatever the record held.
+    pub fn discontinuity(mut self) -> SacchReceiver
+        ensures { λ r. ⌜ r ≡ freshReceiver ⌝ }
+    {
+        self = SacchReceiver::new();
+        self
+    }
+
+    // The field in the place of the oldest.
+    fn with_field(mut self, field: u16) -> SacchReceiver
+        requires { ⌜ self .«field_cursor» < 12 ⌝ }
+        ensures { λ r. ⌜ r ≡ fieldStored self field ⌝ }
+    {
+        let at = self.field_cursor;
+        let received = one_more(self.received, 12);
+        self.fields[at] = field;
+        self.field_cursor = (at + 1) % 12;
+        self.received = received;
+        self
+    }
+
+    // The row that the stored fields complete, once there are twelve.
+    fn row(self) -> Row
+        requires { ⌜ self .«field_cursor» < 12 ⌝ }
+        ensures { λ r. ⌜ r ≡ rowFound self ⌝ }
+    {
+        if self.received < 12 {
+            return Row::Missing;
+        }
+        let fields = self.fields;
+        let next = self.field_cursor;
+        Row::Complete(row_of(fields, next))
+    }
+
+    // The row in the place of the oldest, and the phase one on.
+    fn with_row(mut self, row: u16) -> SacchReceiver
+        requires { ⌜ (self .«row_cursor» < 11) × (self .phase < 11) ⌝ }
+        ensures { λ r. ⌜ r ≡ rowStored self row ⌝ }
+    {
+        let at = self.row_cursor;
+        let available = one_more(self.available, 11);
+        let phase = self.phase;
+        self.rows[at] = row;
+        self.row_cursor = (at + 1) % 11;
+        self.available = available;
+        self.phase = (phase + 1) % 11;
+        self
+    }
+
+    // The lock set anew.
+    fn with_lock(self, lock: Lock) -> SacchReceiver
+        ensures { λ r. ⌜ r ≡ locked self lock ⌝ }
+    {
+        let fields = self.fields;
+        let rows = self.rows;
+        SacchReceiver {
+            fields,
+            field_cursor: self.field_cursor,
+            received: self.received,
+            rows,
+            row_cursor: self.row_cursor,
+            available: self.available,
+            phase: self.phase,
+            lock,
+        }
+    }
+
+    // A word locks at this phase, a rejection unlocks.
+    fn settled(self, found: Decoded) -> Pushed
+        ensures { λ r. ⌜ (outcomeAnswer (r .outcome) ≡ trialAnswer (decodeAnswer found)) × (r .receiver ≡ locked self (trialLock (decodeAnswer found) (self .phase))) ⌝ }
+    {
+        let phase = self.phase;
+        match found {
+            Decoded::Accepted(word) => {
+                let receiver = self.with_lock(Lock::Locked(phase));
+                Pushed {
+                    outcome: ReceiveOutcome::Word(word),
+                    receiver,
+                }
+            }
+            Decoded::Refused(why) => {
+                let receiver = self.with_lock(Lock::Unlocked);
+                Pushed {
+                    outcome: ReceiveOutcome::Rejected(why),
+                    receiver,
+                }
+            }
+        }
+    }
+
+    // The rows tried, where eleven are there and the lock lets their phase.
+    fn trial(self, dvcc: u8) -> Pushed
+        requires { ⌜ self .«row_cursor» < 11 ⌝ }
+        ensures { λ r. ⌜ moved r ≡ tried self dvcc ⌝ }
+    {
+        if self.available < 11 {
+            return Pushed {
+                outcome: ReceiveOutcome::Pending,
+                receiver: self,
+            };
+        }
+        let lock = self.lock;
+        let phase = self.phase;
+        if lock_tries(lock, phase) {
+            let rows = self.rows;
+            let next = self.row_cursor;
+            return self.settled(decode_window(rows, next, dvcc));
+        }
+        Pushed {
+            outcome: ReceiveOutcome::Pending,
+            receiver: self,
+        }
+    }
+
+    // An accepted field. A push that yields no row ends there as Pending.
+    fn step(self, field: u16, dvcc: u8) -> Pushed
+        requires { ⌜ (self .«field_cursor» < 12) × (self .«row_cursor» < 11) × (self .phase < 11) ⌝ }
+        ensures { λ r. ⌜ moved r ≡ stepOf self field dvcc ⌝ }
+    {
+        let stored = self.with_field(field);
+        let found = stored.row();
+        let Row::Complete(row) = found else {
+            return Pushed {
+                outcome: ReceiveOutcome::Pending,
+                receiver: stored,
+            };
+        };
+        stored.with_row(row).trial(dvcc)
+    }
+
+    // One field pushed. Refused with State, then Symbol: then the receiver is as it was.
+    pub fn pushed(self, field: u16, dvcc: u8) -> Pushed
+        ensures { λ r. ⌜ moved r ≡ pushOf self field dvcc ⌝ }
+    {
+        if !receiver_fits(self) {
+            return Pushed {
+                outcome: ReceiveOutcome::Refused(Refusal::State),
+                receiver: self,
+            };
+        }
+        if 4095 < field {
+            return Pushed {
+                outcome: ReceiveOutcome::Refused(Refusal::Symbol),
+                receiver: self,
+            };
+        }
+        self.step(field, dvcc)
+    }
+
+    // The same, with a word or nothing as the answer.
+    pub fn push(self, field: u16, dvcc: u8) -> PushedWord
+        ensures { λ r. ⌜ movedWord r ≡ pushWordOf self field dvcc ⌝ }
+    {
+        let pushed = self.pushed(field, dvcc);
+        let outcome = pushed.outcome;
+        let receiver = pushed.receiver;
+        PushedWord {
+            heard: word_only(outcome),
+            receiver,
+        }
+    }
+
+    // The same as `pushed` over a receiver that is lent: taken out, pushed, and written back.
+    pub fn push_outcome(&mut self, field: u16, dvcc: u8) -> ReceiveOutcome
+        ensures { λ r. ⌜ (outcomeAnswer r ≡ pushOf (now (self .entry)) field dvcc .answer) × (now (self .exit) ≡ pushOf (now (self .entry)) field dvcc .receiver) ⌝ }
+    {
+        let pushed = (*self).pushed(field, dvcc);
+        *self = pushed.receiver;
+        pushed.outcome
+    }
+}
