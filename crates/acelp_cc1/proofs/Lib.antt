@@ -1,0 +1,12 @@
+-- The laws of ACELP CC1's frames.
+pub mod Placing
+pub mod Parts
+pub mod Sending
+pub mod Ordering
+pub mod Inputs
+pub mod Framing
+pub mod Restoring
+pub mod Settling
+pub mod TableRows
+pub mod OwnInputs
+pub mod RoundTrip

@@ -1,0 +1,111 @@
+// Encoding of a frame (TIA/EIA-136-410 4.3).
+// Ported from 136-bts, acelp_cc1.rs, and changed (see NOTICE).
+use crate::places::copy_end;
+use crate::places::gather;
+use crate::places::information_positions;
+use crate::places::parity_positions;
+use crate::places::scatter;
+use crate::table::speech_order;
+use bits::Lent;
+use bits::Wrote;
+use bits::exact;
+use bits::first;
+use bits::only_bits;
+use bits::unpack;
+use coding::acelp::transition;
+use coding::checksum::checksum7_of_bits;
+ghost use mathlib.Core.Bool.{true};
+ghost use mathlib.Core.List.{_++_};
+ghost use mathlib.Core.Path.{_≡_};
+ghost use Prim.Native.Nat.{_<_};
+ghost use lib.ListN.{drop, length, replicate};
+ghost use Rattle.bits.specs.Bits.{allBinary, bits, bytes};
+ghost use Rattle.coding.specs.Codes.{acelp, coded};
+ghost use Rattle.coding.specs.Registers.{memoryLow};
+ghost use Rattle.puncturing.specs.Punctured.{sentOf};
+ghost use Rattle.acelp_cc1.specs.Calls.{Encoding, lentEncode};
+ghost use Rattle.acelp_cc1.specs.Frames.{frameOf, inputsOf, ordered};
+ghost use Rattle.acelp_cc1.specs.Places.{pairSent};
+
+fn lent_encode(speech: &[u8], room: usize) -> Lent
+    ensures { λ r. ⌜ r ≡ lentEncode (now (speech .entry)) room ⌝ }
+{
+    let length = exact(148, speech.len());
+    let space = exact(260, room);
+    first(length, first(space, only_bits(speech)))
+}
+
+// Writes codec bits in the speech order.
+fn order(speech: &[u8], sorted: &mut [u8])
+    requires { ⌜ (length (now speech) ≡ 148) × (length (now sorted) ≡ 148) ⌝ }
+    ensures { λ _. ⌜ now (sorted .exit) ≡ ordered 0 (now (speech .entry)) ⌝ }
+{
+    let places = speech_order();
+    gather(&places, speech, sorted);
+}
+
+// Writes the inputs into zeros: the class-one bits, and the checksum of the first 48.
+fn fill_inputs(sorted: &[u8], inputs: &mut [u8])
+    requires { ⌜ (length (now sorted) ≡ 148) × (allBinary (now sorted) ≡ true) × (now inputs ≡ replicate 108 0) ⌝ }
+    ensures { λ _. ⌜ now (inputs .exit) ≡ bytes (inputsOf (bits (now (sorted .entry)))) ⌝ }
+{
+    let information = information_positions();
+    scatter(&information, sorted, inputs);
+    let checksum = checksum7_of_bits(&sorted[..48]);
+    let mut parity = [0u8; 7];
+    unpack(checksum as u64, &mut parity);
+    let positions = parity_positions();
+    scatter(&positions, &parity, inputs);
+}
+
+// Writes the pair of a step, where it sends one: of each 27 steps the last sends nothing.
+fn send_pair(step: usize, pair: [u8; 2], frame: &mut [u8])
+    requires { ⌜ (step < 108) × (length (now frame) ≡ 260) ⌝ }
+    ensures { λ _. ⌜ now (frame .exit) ≡ pairSent step pair (now (frame .entry)) ⌝ }
+{
+    if step % 27 == 26 {
+        return;
+    }
+    let at = (step - step / 27) * 2;
+    frame[at] = pair[0];
+    frame[at + 1] = pair[1];
+}
+
+// Writes the protected bits of the inputs.
+fn send(inputs: &[u8], frame: &mut [u8])
+    requires { ⌜ (length (now inputs) ≡ 108) × (allBinary (now inputs) ≡ true) × (length (now frame) ≡ 260) ⌝ }
+    ensures { λ _. ⌜ now (frame .exit) ≡ bytes (sentOf (coded acelp (memoryLow 0) (bits (now (inputs .entry))))) ++ drop 208 (now (frame .entry)) ⌝ }
+{
+    let mut state = 0u8;
+    for step in 0..108usize {
+        let taken = transition(state, inputs[step]);
+        let pair = taken.output;
+        send_pair(step, pair, frame);
+        state = taken.next;
+    }
+}
+
+// Writes a frame: the protected bits, and class two as it is.
+fn write_frame(speech: &[u8], frame: &mut [u8])
+    requires { ⌜ (length (now speech) ≡ 148) × (allBinary (now speech) ≡ true) × (length (now frame) ≡ 260) ⌝ }
+    ensures { λ _. ⌜ now (frame .exit) ≡ bytes (frameOf (bits (now (speech .entry)))) ⌝ }
+{
+    let mut sorted = [0u8; 148];
+    order(speech, &mut sorted);
+    let mut inputs = [0u8; 108];
+    fill_inputs(&sorted, &mut inputs);
+    send(&inputs, frame);
+    copy_end(&sorted, 96, frame, 208);
+}
+
+// Writes the channel bits of a codec frame.
+pub fn encode(speech: &[u8], frame: &mut [u8]) -> Wrote
+    ensures { λ r. ⌜ Encoding (now (speech .entry)) (now (frame .entry)) (now (frame .exit)) r ⌝ }
+{
+    let ready = lent_encode(speech, frame.len());
+    if let Lent::Refused(why) = ready {
+        return Wrote::Refused(why);
+    }
+    write_frame(speech, frame);
+    Wrote::Done
+}

@@ -1,0 +1,2 @@
+-- The laws of slots.
+pub mod RoundTrip

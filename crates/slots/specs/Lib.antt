@@ -1,0 +1,2 @@
+-- Slots that carry parts of successive frames.
+pub mod Slots

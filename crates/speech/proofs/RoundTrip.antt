@@ -1,0 +1,128 @@
+-- `decode_candidate` of `encode` is the speech bits, valid, corrected 0: the frame's own word weighs nothing, and no other word has its coded bits.
+-- Class two comes through whatever the protected bits become. Assumes nothing.
+use mathlib.Core.Path.{_≡_, refl, sym, ap, ap₂, subst, _∙_}
+use mathlib.Core.Bool.{Bool, true}
+use mathlib.Core.List.{List, [], reverse, reverse-reverse}
+use Prim.Native.Nat.{ℕ, _*_}
+use native.Mathlib.Omega.{arith}
+use lib.ListN.{length, length-map, length-reverse}
+use borrow.Author.Tests.{eq-eqb}
+use Rattle.bits.specs.Bits.{bit, byte, bits, bytes, disagreements}
+use Rattle.bits.specs.Numbers.{packed, unpacked}
+use Rattle.bits.specs.Refusals.{Answer, accepted, firstOf}
+use Rattle.bits.specs.declared.Lent.the-variants.{Fine}
+use Rattle.bits.specs.declared.Wrote.{Wrote}
+use Rattle.bits.proofs.Binary.{bits-bytes, bytes-bits, binary-bytes}
+use Rattle.bits.proofs.Listed.{length-listed}
+use Rattle.bits.proofs.Packed.{unpacked-length}
+use Rattle.bits.proofs.Refusing.{exact-fine, binary-fine}
+use Rattle.bits.proofs.Tally.{disagreements-self, disagreements-none}
+use Rattle.coding.specs.Checksums.{checksum7Of}
+use Rattle.coding.specs.Codes.{coded, dcch}
+use Rattle.coding.specs.Registers.{memoryHigh}
+use Rattle.coding.proofs.Coded.{coded-length}
+use Rattle.coding.proofs.Unique.{same-start}
+use Rattle.trellis.specs.Search.{Nearest, Ambiguous}
+use Rattle.trellis.specs.Words.{Terminated}
+use Rattle.viterbi.specs.Hard.{weight, weightFrom}
+use Rattle.speech.specs.Frames.{bitsAt, parityPlaces, parityOf, inputsWith, inputsOf, classOneOf, placed, protectedOf, isClassTwo, frameOf}
+use Rattle.speech.specs.Calls.{Told, Settled, Decoding, Encoding, lentEncode, lentDecode, frameWeight, statusOf}
+use Rattle.speech.specs.declared.CrcStatus.{CrcStatus}
+use Rattle.speech.specs.declared.CrcStatus.the-variants.{Valid}
+use Rattle.speech.proofs.Answering.{encode-fine}
+use Rattle.speech.proofs.InputBits.{inputs-length}
+use Rattle.speech.proofs.Places.{inputs-end, inputs-one, inputs-parity, inputs-significant, placed-two, placed-protected}
+use Rattle.speech.proofs.Settling.{map-taken}
+use Rattle.speech.proofs.Statuses.{status-by}
+
+-- ---- class two
+placed-length : (protected two : List Bool) → length (placed protected two) ≡ 260
+unfolding placed
+placed-length protected two = length-listed 260 _
+
+-- whatever the protected bits are
+pub class-two-through : (protected two : List Bool) {one′ two′ : List ℕ} {answer : Answer Told} → length two ≡ 82 → Settled (bytes (placed protected two)) one′ two′ answer → two′ ≡ bytes two
+class-two-through protected two e s = s .two ∙ sym (map-taken byte isClassTwo 0 (placed protected two)) ∙ ap bytes (placed-two protected two e)
+
+-- ---- a frame's own word
+module _ (one two : List Bool) (size : length one ≡ 77) where
+  sent : List Bool
+  sent = coded dcch (memoryHigh 0) (inputsOf one)
+
+  sent-length : length sent ≡ 178
+  unfolding sent
+  sent-length = coded-length dcch (memoryHigh 0) (inputsOf one) ∙ ap (λ (n : ℕ). n * 2) (inputs-length one)
+
+  -- what the decoder weighs with
+  received : protectedOf (bits (bytes (frameOf one two))) ≡ sent
+  unfolding frameOf sent
+  received = ap protectedOf (bits-bytes (placed sent two)) ∙ placed-protected sent two sent-length
+
+  own : Terminated 89 (reverse (inputsOf one))
+  unfolding inputsOf
+  own = record { steps = length-reverse (inputsOf one) ∙ inputs-length one; tail = inputs-end one _ }
+
+  own-weight : frameWeight (bytes (frameOf one two)) (reverse (inputsOf one)) ≡ 0
+  unfolding weightFrom sent
+  own-weight =
+      ap (λ (u : List Bool). weight u (reverse (inputsOf one))) received
+      ∙ ap (λ (u : List Bool). disagreements (coded dcch (memoryHigh 0) u) sent) (reverse-reverse (inputsOf one)) ∙ disagreements-self sent
+
+  only-own : (w : List Bool) → Nearest (Terminated 89) (frameWeight (bytes (frameOf one two))) w → (frameWeight (bytes (frameOf one two)) w ≡ 0) × (reverse w ≡ inputsOf one)
+  unfolding weightFrom sent
+  only-own w n =
+      let zero : frameWeight (bytes (frameOf one two)) w ≡ 0 = omega (arith, n .least (reverse (inputsOf one)) own, own-weight) in (
+        zero,
+        same-start (memoryHigh 0) (reverse w) (inputsOf one)
+            (disagreements-none (coded dcch (memoryHigh 0) (reverse w)) sent
+            (coded-length dcch (memoryHigh 0) (reverse w) ∙ omega (arith, length-reverse w, n .word .steps, sent-length))
+            (ap (λ (u : List Bool). weight u w) (sym received) ∙ zero)),
+      )
+
+  alone : Ambiguous (Terminated 89) (frameWeight (bytes (frameOf one two))) → ⊥
+  alone a =
+      a .distinct
+      (sym (reverse-reverse (a .one)) ∙ ap reverse (only-own (a .one) (a .one-nearest) .1 ∙ sym (only-own (a .other) (a .other-nearest) .1)) ∙ reverse-reverse (a .other))
+
+  -- the checksum is right
+  valid-own : statusOf (inputsOf one) ≡ Valid
+  unfolding inputsOf parityOf
+  valid-own =
+      let p : List Bool = parityOf (inputsWith one []) in
+      status-by (inputsWith one p) true
+      (eq-eqb (packed (bitsAt parityPlaces (inputsWith one p))) (packed (parityOf (inputsWith one p)))
+      (ap packed (inputs-parity one p (unpacked-length 7 _) ∙ ap (λ (u : List Bool). unpacked 7 (checksum7Of u)) (sym (inputs-significant one p)))))
+
+  own-one : classOneOf (inputsOf one) ≡ one
+  unfolding inputsOf
+  own-one = inputs-one one _ size
+
+  fine : (n m : ℕ) → n ≡ 77 → m ≡ 82 → lentDecode (bytes (frameOf one two)) n m ≡ Fine
+  unfolding frameOf
+  fine n m en em =
+      let frame : List ℕ = bytes (frameOf one two) in
+      ap₂ firstOf (exact-fine 260 (length frame) (length-map (frameOf one two) byte ∙ placed-length _ two))
+      (ap₂ firstOf (exact-fine 77 n en) (ap₂ firstOf (exact-fine 82 m em) (binary-fine frame (binary-bytes (frameOf one two)))))
+
+  -- of the frame of speech bits
+  pub round-trip : length two ≡ 82 → {one₀ two₀ one′ two′ : List ℕ} {answer : Answer Told} → length one₀ ≡ 77 → length two₀ ≡ 82
+      → Decoding (bytes (frameOf one two)) one₀ two₀ one′ two′ answer
+      → (answer ≡ accepted (record { crc = Valid; corrected = 0 })) × (one′ ≡ bytes one) × (two′ ≡ bytes two)
+  unfolding frameOf sent
+  round-trip twos {one₀} {two₀} {one′} {two′} {answer} room-one room-two d =
+      let s : Settled (bytes (frameOf one two)) one′ two′ answer = d .settled (fine (length one₀) (length two₀) room-one room-two) alone in
+      let w = only-own (s .word) (s .nearest) in (
+        s .told ∙ ap accepted (ap₂ (λ (c : CrcStatus) (n : ℕ). record { crc = c; corrected = n }) (ap statusOf (w .1) ∙ valid-own) (w .0)),
+        s .one ∙ ap bytes (ap classOneOf (w .1) ∙ own-one),
+        class-two-through sent two twos s,
+      )
+
+-- ---- what `encode` writes, `decode_candidate` reads
+pub encoded-back : (one two : List ℕ) {frame₀ frame one₀ two₀ one′ two′ : List ℕ} (r : Wrote) {answer : Answer Told} → lentEncode one two (length frame₀) ≡ Fine
+    → length one₀ ≡ 77 → length two₀ ≡ 82 → Encoding one two frame₀ frame r → Decoding frame one₀ two₀ one′ two′ answer
+    → (answer ≡ accepted (record { crc = Valid; corrected = 0 })) × (one′ ≡ one) × (two′ ≡ two)
+encoded-back one two {frame₀} {frame} {one₀} {two₀} {one′} {two′} r {answer} fits room-one room-two e d =
+    let t = encode-fine one two (length frame₀) refl fits in
+    let b = round-trip (bits one) (bits two) (length-map one bit ∙ t .0 .0) (length-map two bit ∙ t .0 .1) room-one room-two
+    (subst (λ (l : List ℕ). Decoding l one₀ two₀ one′ two′ answer) (e .done fits .1) d) in
+    (b .0, b .1 ∙ bytes-bits one (t .1 .0), b .2 ∙ bytes-bits two (t .1 .1))

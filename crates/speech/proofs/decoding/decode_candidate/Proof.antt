@@ -1,0 +1,43 @@
+-- `speech::decoding::decode_candidate` meets its contract: a refusal of what was lent, or the search. Assumes nothing.
+use mathlib.Core.Path.{sym, _∙_}
+use Rattle.speech.proofs.Settling.{declined-end}
+use borrow.Author.Needs.{needs}
+use Rattle.speech.proofs.decoding.decode_candidate.Statement.{statement}
+use Rattle.speech.proofs.decoding.decode_candidate.Tie as tie
+
+lent-decode-requires : tie.Need-lent-decode-requires
+lent-decode-requires c κs = search needs
+
+enum-known-ready : tie.Need-enum-known-ready
+enum-known-ready c = search needs
+
+returns : tie.Need-returns
+returns c = declined-end (c .before .before .before .lent-decode .ensures) _ (c .before .ready .given .1)
+
+enum-told : tie.Need-enum-told
+enum-told c = search needs
+
+settle-requires : tie.Need-settle-requires
+settle-requires c κs = sym (c .before .before .before .before .lent-decode .ensures) ∙ c .before .before .enum-told .given .1
+
+same-length : tie.Need-same-length
+same-length c = search needs
+
+same-length-2 : tie.Need-same-length-2
+same-length-2 c = search needs
+
+returns-2 : tie.Need-returns-2
+returns-2 c = search needs
+
+pub decode-candidate-spec : {M : Type 1} → statement M
+decode-candidate-spec =
+    tie.close
+    (tie.spec
+    lent-decode-requires
+    enum-known-ready
+    returns
+    enum-told
+    settle-requires
+    same-length
+    same-length-2
+    returns-2)

@@ -1,0 +1,71 @@
+-- `speech::decoding::settle` meets its contract: two nearest words, or one. Assumes nothing.
+use mathlib.Core.Path.{refl}
+use native.Mathlib.Omega.{arith}
+use lib.ListN.{length}
+use Rattle.speech.proofs.Answering.{decode-fine}
+use Rattle.speech.proofs.InputBits.{copied-out}
+use Rattle.speech.proofs.Settling.{inputs-binary, unclear-end, settled-end}
+use borrow.Author.Needs.{needs}
+use Rattle.speech.proofs.decoding.settle.Statement.{statement}
+use Rattle.speech.proofs.decoding.settle.Tie as tie
+
+slice-aggregate-nearest-inputs : tie.Need-slice-aggregate-nearest-inputs
+slice-aggregate-nearest-inputs c = search needs
+
+nearest-inputs-requires : tie.Need-nearest-inputs-requires
+nearest-inputs-requires c κs =
+    let entry = c .before .before .before .before in
+    let fine = decode-fine (entry .args .frame .now) (length (entry .args .class-one .now)) (length (entry .args .class-two .now)) (entry .pre) in
+    (fine .0, fine .3, refl)
+
+returns : tie.Need-returns
+returns c = unclear-end (c .before .before .before .before .before .before .before .pre) (c .before .before .nearest-inputs .ensures) (c .if1 .taken)
+
+slice-aggregate-copy-run : tie.Need-slice-aggregate-copy-run
+slice-aggregate-copy-run c = search needs
+
+copy-run-requires : tie.Need-copy-run-requires
+copy-run-requires c κs =
+    let entry = c .before .before .before .before .before .before .before .before .before in
+    let fine = decode-fine (entry .args .frame .now) (length (entry .args .class-one .now)) (length (entry .args .class-two .now)) (entry .pre) in
+    (omega (arith, c .before .before .before .before .nearest-inputs .kept .1 .0), omega (arith, fine .1))
+
+take-class-two-requires : tie.Need-take-class-two-requires
+take-class-two-requires c κs =
+    let entry = c .before .before .before .before .before .before .before .before .before .before .before .before .before in
+    let fine = decode-fine (entry .args .frame .now) (length (entry .args .class-one .now)) (length (entry .args .class-two .now)) (entry .pre) in
+    (fine .0, fine .2)
+
+slice-aggregate-accept : tie.Need-slice-aggregate-accept
+slice-aggregate-accept c = search needs
+
+accept-requires : tie.Need-accept-requires
+accept-requires c κs = (c .before .before .before .before .before .before .before .before .before .before .before .before .nearest-inputs .kept .1 .0, inputs-binary (c .before .before .before .before .before .before .before .before .before .before .before .before .nearest-inputs .ensures))
+
+same-length : tie.Need-same-length
+same-length c = search needs
+
+same-length-2 : tie.Need-same-length-2
+same-length-2 c = search needs
+
+returns-2 : tie.Need-returns-2
+returns-2 c =
+    let entry = c .before .before .before .before .before .before .before .before .before .before .before .before .before .before .before .before .before .before in
+    let fine = decode-fine (entry .args .frame .now) (length (entry .args .class-one .now)) (length (entry .args .class-two .now)) (entry .pre) in
+    settled-end (entry .pre) (c .before .before .before .before .before .before .before .before .before .before .before .before .before .nearest-inputs .ensures) (c .before .before .before .before .before .before .before .before .before .before .before .if1 .left) (copied-out (c .before .before .before .before .before .before .before .before .before .before .before .before .before .nearest-inputs .last .1 .0) (entry .args .class-one .now) (fine .1) (c .before .before .before .before .before .before .before .before .copy-run .ensures)) (c .before .before .before .before .take-class-two .ensures) (c .accept .ensures)
+
+pub settle-spec : {M : Type 1} → statement M
+settle-spec =
+    tie.close
+    (tie.spec
+    slice-aggregate-nearest-inputs
+    nearest-inputs-requires
+    returns
+    slice-aggregate-copy-run
+    copy-run-requires
+    take-class-two-requires
+    slice-aggregate-accept
+    accept-requires
+    same-length
+    same-length-2
+    returns-2)

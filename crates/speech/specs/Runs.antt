@@ -1,0 +1,36 @@
+-- Lists of places, and runs of places between bounds: from the first bound up to the second, from the third up to the fourth, and so on.
+use mathlib.Core.Path.{_≡_}
+use mathlib.Core.Bool.{Bool, true, false, cond}
+use mathlib.Core.List.{List, [], _∷_, _++_}
+use Prim.Native.Nat.{ℕ, _+_, _-_, _*_, _/_, _<_, _≤_}
+use lib.Dec.{ltb}
+use lib.ListN.{length, getD, take, drop}
+use lib.Seq.{paste}
+
+-- each place lies below n
+unfoldable pub allBelow : List ℕ → ℕ → Bool
+allBelow [] n = true
+allBelow (p ∷ places) n = cond (ltb p n) (allBelow places n) false
+
+-- each run lies within n places
+pub record Bounds (bounds : List ℕ) (n : ℕ) : Type 0 where
+  pub even : length bounds / 2 * 2 ≡ length bounds
+  pub within : (k : ℕ) → k < length bounds / 2 → (getD bounds (k * 2) 0 ≤ getD bounds (k * 2 + 1) 0) × (getD bounds (k * 2 + 1) 0 ≤ n)
+
+-- how many places the runs have
+unfoldable pub totalOf : List ℕ → ℕ
+totalOf [] = 0
+totalOf (a ∷ []) = 0
+totalOf (a ∷ b ∷ bounds) = (b - a) + totalOf bounds
+
+-- the runs of a list, one after the other
+unfoldable pub runsOf : {A : Type 0} → List ℕ → List A → List A
+runsOf [] l = []
+runsOf (a ∷ []) l = []
+runsOf (a ∷ b ∷ bounds) l = take (b - a) (drop a l) ++ runsOf bounds l
+
+-- a list with bits, in order, in its runs
+unfoldable pub putRuns : {A : Type 0} → List ℕ → List A → List A → List A
+putRuns [] bits l = l
+putRuns (a ∷ []) bits l = l
+putRuns (a ∷ b ∷ bounds) bits l = putRuns bounds (drop (b - a) bits) (paste l a bits (b - a))

@@ -1,0 +1,59 @@
+// Encoding of a frame.
+// Ported from 136-bts, speech.rs, and changed (see NOTICE).
+use crate::inputs::fill_inputs;
+use crate::turns::merge;
+use bits::Lent;
+use bits::Wrote;
+use bits::exact;
+use bits::first;
+use bits::only_bits;
+use coding::dcch::convolutional_encode;
+ghost use mathlib.Core.Bool.{true};
+ghost use mathlib.Core.Path.{_≡_};
+ghost use lib.ListN.{length};
+ghost use Rattle.bits.specs.Bits.{allBinary, bits, bytes};
+ghost use Rattle.coding.specs.Codes.{coded, dcch};
+ghost use Rattle.coding.specs.Registers.{memoryHigh};
+ghost use Rattle.speech.specs.Calls.{Encoding, lentEncode};
+ghost use Rattle.speech.specs.Frames.{frameOf, inputsOf};
+
+fn lent_encode(class_one: &[u8], class_two: &[u8], room: usize) -> Lent
+    ensures { λ r. ⌜ r ≡ lentEncode (now («class_one» .entry)) (now («class_two» .entry)) room ⌝ }
+{
+    let symbols = first(only_bits(class_one), only_bits(class_two));
+    let later = first(exact(82, class_two.len()), first(exact(260, room), symbols));
+    first(exact(77, class_one.len()), later)
+}
+
+// Writes the protected bits of class one.
+fn encode_class_one(class_one: &[u8], protected: &mut [u8])
+    requires { ⌜ (length (now «class_one») ≡ 77) × (allBinary (now «class_one») ≡ true) × (length (now protected) ≡ 178) ⌝ }
+    ensures { λ _. ⌜ now (protected .exit) ≡ bytes (coded dcch (memoryHigh 0) (inputsOf (bits (now («class_one» .entry))))) ⌝ }
+{
+    let mut inputs = [0u8; 89];
+    fill_inputs(class_one, &mut inputs);
+    convolutional_encode(0, &inputs, protected);
+}
+
+// Writes the frame of speech bits.
+fn fill_frame(class_one: &[u8], class_two: &[u8], frame: &mut [u8])
+    requires { ⌜ (length (now «class_one») ≡ 77) × (length (now «class_two») ≡ 82) × (length (now frame) ≡ 260) ⌝ }
+    requires { ⌜ (allBinary (now «class_one») ≡ true) × (allBinary (now «class_two») ≡ true) ⌝ }
+    ensures { λ _. ⌜ now (frame .exit) ≡ bytes (frameOf (bits (now («class_one» .entry))) (bits (now («class_two» .entry)))) ⌝ }
+{
+    let mut protected = [0u8; 178];
+    encode_class_one(class_one, &mut protected);
+    merge(&protected, class_two, frame);
+}
+
+// Writes the frame that is sent for speech bits.
+pub fn encode(class_one: &[u8], class_two: &[u8], frame: &mut [u8]) -> Wrote
+    ensures { λ r. ⌜ Encoding (now («class_one» .entry)) (now («class_two» .entry)) (now (frame .entry)) (now (frame .exit)) r ⌝ }
+{
+    let ready = lent_encode(class_one, class_two, frame.len());
+    if let Lent::Refused(why) = ready {
+        return Wrote::Refused(why);
+    }
+    fill_frame(class_one, class_two, frame);
+    Wrote::Done
+}

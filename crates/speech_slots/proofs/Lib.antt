@@ -1,0 +1,5 @@
+-- The laws.
+pub mod Order
+pub mod Rowing
+pub mod Answering
+pub mod RoundTrip
