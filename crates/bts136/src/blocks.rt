@@ -1,77 +1,10 @@
-// DCCH blocks: a function for each format, since C has no enum of ours.
-use crate::mode_of;
-use bits::Wrote;
-use bits::actual;
-use bits::expected;
-use bits::number;
-use dcch::BlockFormat;
-use dcch::Decoded;
-ghost use mathlib.Core.Path.{_≡_};
-ghost use Rattle.dcch.specs.Blocks.{Decoding, Encoding, decodeAnswer};
-ghost use Rattle.bits.specs.Calls.{wroteAnswer};
+// DCCH blocks.
+use flat_dcch::Block;
+ghost use Rattle.dcch_block.specs.Blocks.{Decoding, Encoding};
 ghost use Rattle.dcch.specs.SoftBlocks.{SoftDecoding};
-ghost use Rattle.bts136.specs.Blocks.{FlatDecoded, FlatEncoded, flatDone, flatCorrected};
-ghost use Rattle.bts136.specs.Flat.{modeOf};
-
-// corrected is that of an accepted decoding; expected and actual are those of a refusal for length.
-#[repr(C)]
-pub struct Block {
-    pub refusal: u8,
-    pub expected: usize,
-    pub actual: usize,
-    pub corrected: u16,
-}
-
-fn flat_encoded(answer: Wrote) -> Block
-    ensures { λ r. ⌜ r ≡ flatDone (wroteAnswer answer) ⌝ }
-{
-    match answer {
-        Wrote::Done => Block {
-            refusal: 0,
-            expected: 0,
-            actual: 0,
-            corrected: 0,
-        },
-        Wrote::Refused(why) => Block {
-            refusal: number(why),
-            expected: expected(why),
-            actual: actual(why),
-            corrected: 0,
-        },
-    }
-}
-
-fn flat_decoded(answer: Decoded) -> Block
-    ensures { λ r. ⌜ r ≡ flatCorrected (decodeAnswer answer) ⌝ }
-{
-    match answer {
-        Decoded::Accepted(corrected) => Block {
-            refusal: 0,
-            expected: 0,
-            actual: 0,
-            corrected,
-        },
-        Decoded::Refused(why) => Block {
-            refusal: number(why),
-            expected: expected(why),
-            actual: actual(why),
-            corrected: 0,
-        },
-    }
-}
-
-fn encode(
-    format: BlockFormat,
-    information: &[u8],
-    dvcc: u8,
-    broadcast: bool,
-    block: &mut [u8],
-) -> Block
-    ensures { λ r. ⌜ FlatEncoded (Encoding format (now (information .entry)) dvcc (modeOf broadcast) (now (block .entry)) (now (block .exit))) r ⌝ }
-{
-    let mode = mode_of(broadcast);
-    flat_encoded(dcch::encode(format, information, dvcc, mode, block))
-}
+ghost use Rattle.dcch_wire.specs.declared.BlockFormat.the-variants.{Forward, ReverseAbbreviated, ReverseNormal};
+ghost use Rattle.flat_coding.specs.Flat.{modeOf};
+ghost use Rattle.flat_dcch.specs.Blocks.{FlatDecoded, FlatEncoded};
 
 #[no_mangle]
 pub extern "C" fn bts136_dcch_encode_forward(
@@ -80,9 +13,9 @@ pub extern "C" fn bts136_dcch_encode_forward(
     broadcast: bool,
     block: &mut [u8],
 ) -> Block
-    ensures { λ r. ⌜ FlatEncoded (Encoding BlockFormat.Forward (now (information .entry)) dvcc (modeOf broadcast) (now (block .entry)) (now (block .exit))) r ⌝ }
+    ensures { λ r. ⌜ FlatEncoded (Encoding Forward (now (information .entry)) dvcc (modeOf broadcast) (now (block .entry)) (now (block .exit))) r ⌝ }
 {
-    encode(BlockFormat::Forward, information, dvcc, broadcast, block)
+    flat_dcch::encode_forward(information, dvcc, broadcast, block)
 }
 
 #[no_mangle]
@@ -92,15 +25,9 @@ pub extern "C" fn bts136_dcch_encode_reverse_normal(
     broadcast: bool,
     block: &mut [u8],
 ) -> Block
-    ensures { λ r. ⌜ FlatEncoded (Encoding BlockFormat.ReverseNormal (now (information .entry)) dvcc (modeOf broadcast) (now (block .entry)) (now (block .exit))) r ⌝ }
+    ensures { λ r. ⌜ FlatEncoded (Encoding ReverseNormal (now (information .entry)) dvcc (modeOf broadcast) (now (block .entry)) (now (block .exit))) r ⌝ }
 {
-    encode(
-        BlockFormat::ReverseNormal,
-        information,
-        dvcc,
-        broadcast,
-        block,
-    )
+    flat_dcch::encode_reverse_normal(information, dvcc, broadcast, block)
 }
 
 #[no_mangle]
@@ -110,28 +37,9 @@ pub extern "C" fn bts136_dcch_encode_reverse_abbreviated(
     broadcast: bool,
     block: &mut [u8],
 ) -> Block
-    ensures { λ r. ⌜ FlatEncoded (Encoding BlockFormat.ReverseAbbreviated (now (information .entry)) dvcc (modeOf broadcast) (now (block .entry)) (now (block .exit))) r ⌝ }
+    ensures { λ r. ⌜ FlatEncoded (Encoding ReverseAbbreviated (now (information .entry)) dvcc (modeOf broadcast) (now (block .entry)) (now (block .exit))) r ⌝ }
 {
-    encode(
-        BlockFormat::ReverseAbbreviated,
-        information,
-        dvcc,
-        broadcast,
-        block,
-    )
-}
-
-fn decode(
-    format: BlockFormat,
-    block: &[u8],
-    dvcc: u8,
-    broadcast: bool,
-    information: &mut [u8],
-) -> Block
-    ensures { λ r. ⌜ FlatDecoded (Decoding format (now (block .entry)) dvcc (modeOf broadcast) (now (information .entry)) (now (information .exit))) r ⌝ }
-{
-    let mode = mode_of(broadcast);
-    flat_decoded(dcch::decode(format, block, dvcc, mode, information))
+    flat_dcch::encode_reverse_abbreviated(information, dvcc, broadcast, block)
 }
 
 #[no_mangle]
@@ -141,9 +49,9 @@ pub extern "C" fn bts136_dcch_decode_forward(
     broadcast: bool,
     information: &mut [u8],
 ) -> Block
-    ensures { λ r. ⌜ FlatDecoded (Decoding BlockFormat.Forward (now (block .entry)) dvcc (modeOf broadcast) (now (information .entry)) (now (information .exit))) r ⌝ }
+    ensures { λ r. ⌜ FlatDecoded (Decoding Forward (now (block .entry)) dvcc (modeOf broadcast) (now (information .entry)) (now (information .exit))) r ⌝ }
 {
-    decode(BlockFormat::Forward, block, dvcc, broadcast, information)
+    flat_dcch::decode_forward(block, dvcc, broadcast, information)
 }
 
 #[no_mangle]
@@ -153,15 +61,9 @@ pub extern "C" fn bts136_dcch_decode_reverse_normal(
     broadcast: bool,
     information: &mut [u8],
 ) -> Block
-    ensures { λ r. ⌜ FlatDecoded (Decoding BlockFormat.ReverseNormal (now (block .entry)) dvcc (modeOf broadcast) (now (information .entry)) (now (information .exit))) r ⌝ }
+    ensures { λ r. ⌜ FlatDecoded (Decoding ReverseNormal (now (block .entry)) dvcc (modeOf broadcast) (now (information .entry)) (now (information .exit))) r ⌝ }
 {
-    decode(
-        BlockFormat::ReverseNormal,
-        block,
-        dvcc,
-        broadcast,
-        information,
-    )
+    flat_dcch::decode_reverse_normal(block, dvcc, broadcast, information)
 }
 
 #[no_mangle]
@@ -171,28 +73,9 @@ pub extern "C" fn bts136_dcch_decode_reverse_abbreviated(
     broadcast: bool,
     information: &mut [u8],
 ) -> Block
-    ensures { λ r. ⌜ FlatDecoded (Decoding BlockFormat.ReverseAbbreviated (now (block .entry)) dvcc (modeOf broadcast) (now (information .entry)) (now (information .exit))) r ⌝ }
+    ensures { λ r. ⌜ FlatDecoded (Decoding ReverseAbbreviated (now (block .entry)) dvcc (modeOf broadcast) (now (information .entry)) (now (information .exit))) r ⌝ }
 {
-    decode(
-        BlockFormat::ReverseAbbreviated,
-        block,
-        dvcc,
-        broadcast,
-        information,
-    )
-}
-
-fn decode_soft(
-    format: BlockFormat,
-    block: &[f64],
-    dvcc: u8,
-    broadcast: bool,
-    information: &mut [u8],
-) -> Block
-    ensures { λ r. ⌜ FlatDecoded (SoftDecoding format (now (block .entry)) dvcc (modeOf broadcast) (now (information .entry)) (now (information .exit))) r ⌝ }
-{
-    let mode = mode_of(broadcast);
-    flat_decoded(dcch::decode_soft(format, block, dvcc, mode, information))
+    flat_dcch::decode_reverse_abbreviated(block, dvcc, broadcast, information)
 }
 
 #[no_mangle]
@@ -202,9 +85,9 @@ pub extern "C" fn bts136_dcch_decode_soft_forward(
     broadcast: bool,
     information: &mut [u8],
 ) -> Block
-    ensures { λ r. ⌜ FlatDecoded (SoftDecoding BlockFormat.Forward (now (block .entry)) dvcc (modeOf broadcast) (now (information .entry)) (now (information .exit))) r ⌝ }
+    ensures { λ r. ⌜ FlatDecoded (SoftDecoding Forward (now (block .entry)) dvcc (modeOf broadcast) (now (information .entry)) (now (information .exit))) r ⌝ }
 {
-    decode_soft(BlockFormat::Forward, block, dvcc, broadcast, information)
+    flat_dcch::decode_soft_forward(block, dvcc, broadcast, information)
 }
 
 #[no_mangle]
@@ -214,15 +97,9 @@ pub extern "C" fn bts136_dcch_decode_soft_reverse_normal(
     broadcast: bool,
     information: &mut [u8],
 ) -> Block
-    ensures { λ r. ⌜ FlatDecoded (SoftDecoding BlockFormat.ReverseNormal (now (block .entry)) dvcc (modeOf broadcast) (now (information .entry)) (now (information .exit))) r ⌝ }
+    ensures { λ r. ⌜ FlatDecoded (SoftDecoding ReverseNormal (now (block .entry)) dvcc (modeOf broadcast) (now (information .entry)) (now (information .exit))) r ⌝ }
 {
-    decode_soft(
-        BlockFormat::ReverseNormal,
-        block,
-        dvcc,
-        broadcast,
-        information,
-    )
+    flat_dcch::decode_soft_reverse_normal(block, dvcc, broadcast, information)
 }
 
 #[no_mangle]
@@ -232,13 +109,7 @@ pub extern "C" fn bts136_dcch_decode_soft_reverse_abbreviated(
     broadcast: bool,
     information: &mut [u8],
 ) -> Block
-    ensures { λ r. ⌜ FlatDecoded (SoftDecoding BlockFormat.ReverseAbbreviated (now (block .entry)) dvcc (modeOf broadcast) (now (information .entry)) (now (information .exit))) r ⌝ }
+    ensures { λ r. ⌜ FlatDecoded (SoftDecoding ReverseAbbreviated (now (block .entry)) dvcc (modeOf broadcast) (now (information .entry)) (now (information .exit))) r ⌝ }
 {
-    decode_soft(
-        BlockFormat::ReverseAbbreviated,
-        block,
-        dvcc,
-        broadcast,
-        information,
-    )
+    flat_dcch::decode_soft_reverse_abbreviated(block, dvcc, broadcast, information)
 }

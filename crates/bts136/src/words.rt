@@ -1,43 +1,12 @@
 // FACCH words and the slots that carry them.
-use bits::Refusal;
-use bits::Wrote;
-use bits::actual;
-use bits::expected;
-use bits::number;
-use facch::Decoded;
-use facch::WordHalf;
-ghost use mathlib.Core.Path.{_≡_};
-ghost use Rattle.bits.specs.Calls.{wroteAnswer};
-ghost use Rattle.facch.specs.Decoding.{Decoding, decodeAnswer, lentDecode, lentErased};
-ghost use Rattle.facch.specs.Wire.{Deinterleaving, Interleaving, Observing};
-ghost use Rattle.facch.specs.Words.{Encoding};
-ghost use Rattle.facch.specs.declared.WordHalf.the-variants.{End, Start};
-ghost use Rattle.bts136.specs.Words.{FlatDecoded, FlatWrote, flatContent, flatWrote, noWord};
-
-// expected and actual are those of a refusal for length.
-#[repr(C)]
-pub struct Written {
-    pub refusal: u8,
-    pub expected: usize,
-    pub actual: usize,
-}
-
-fn flat_wrote(answer: Wrote) -> Written
-    ensures { λ r. ⌜ r ≡ flatWrote (wroteAnswer answer) ⌝ }
-{
-    match answer {
-        Wrote::Done => Written {
-            refusal: 0,
-            expected: 0,
-            actual: 0,
-        },
-        Wrote::Refused(why) => Written {
-            refusal: number(why),
-            expected: expected(why),
-            actual: actual(why),
-        },
-    }
-}
+use flat_calls::Written;
+use flat_facch::Word;
+ghost use Rattle.facch.specs.Decoding.{Decoding, lentDecode, lentErased};
+ghost use Rattle.facch_slots.specs.Wire.{Deinterleaving, Interleaving, Observing};
+ghost use Rattle.facch_slots.specs.declared.WordHalf.the-variants.{End, Start};
+ghost use Rattle.facch_word.specs.Words.{Encoding};
+ghost use Rattle.flat_calls.specs.Calls.{FlatWrote};
+ghost use Rattle.flat_facch.specs.Words.{FlatDecoded};
 
 #[no_mangle]
 pub extern "C" fn bts136_facch_encode(
@@ -48,7 +17,7 @@ pub extern "C" fn bts136_facch_encode(
 ) -> Written
     ensures { λ r. ⌜ FlatWrote (Encoding continuation message dvcc (now (coded .entry)) (now (coded .exit))) r ⌝ }
 {
-    flat_wrote(facch::encode(continuation, message, dvcc, coded))
+    flat_facch::encode(continuation, message, dvcc, coded)
 }
 
 #[no_mangle]
@@ -59,7 +28,7 @@ pub extern "C" fn bts136_facch_interleave(
 ) -> Written
     ensures { λ r. ⌜ FlatWrote (Interleaving (now (previous .entry)) (now (current .entry)) (now (slot .entry)) (now (slot .exit))) r ⌝ }
 {
-    flat_wrote(facch::interleave(previous, current, slot))
+    flat_facch::interleave(previous, current, slot)
 }
 
 #[no_mangle]
@@ -70,81 +39,33 @@ pub extern "C" fn bts136_facch_deinterleave(
 ) -> Written
     ensures { λ r. ⌜ FlatWrote (Deinterleaving (now (first .entry)) (now (second .entry)) (now (coded .entry)) (now (coded .exit))) r ⌝ }
 {
-    flat_wrote(facch::deinterleave(first, second, coded))
+    flat_facch::deinterleave(first, second, coded)
 }
 
 #[no_mangle]
 pub extern "C" fn bts136_facch_observe_start(slot: &[u8], coded: &mut [u8]) -> Written
     ensures { λ r. ⌜ FlatWrote (Observing (now (slot .entry)) Start (now (coded .entry)) (now (coded .exit))) r ⌝ }
 {
-    flat_wrote(facch::observe_half(slot, WordHalf::Start, coded))
+    flat_facch::observe_start(slot, coded)
 }
 
 #[no_mangle]
 pub extern "C" fn bts136_facch_observe_end(slot: &[u8], coded: &mut [u8]) -> Written
     ensures { λ r. ⌜ FlatWrote (Observing (now (slot .entry)) End (now (coded .entry)) (now (coded .exit))) r ⌝ }
 {
-    flat_wrote(facch::observe_half(slot, WordHalf::End, coded))
-}
-
-// What is beside the refusal is that of an accepted word; expected and actual are those of a refusal for length.
-#[repr(C)]
-pub struct Word {
-    pub refusal: u8,
-    pub expected: usize,
-    pub actual: usize,
-    pub continuation: bool,
-    pub message: u64,
-    pub corrected: u16,
-    pub observed: u16,
-}
-
-fn no_word(why: Refusal) -> Word
-    ensures { λ r. ⌜ r ≡ noWord why ⌝ }
-{
-    Word {
-        refusal: number(why),
-        expected: expected(why),
-        actual: actual(why),
-        continuation: false,
-        message: 0,
-        corrected: 0,
-        observed: 0,
-    }
-}
-
-fn flat_decoded(answer: Decoded) -> Word
-    ensures { λ r. ⌜ r ≡ flatContent (decodeAnswer answer) ⌝ }
-{
-    match answer {
-        Decoded::Accepted {
-            continuation,
-            message,
-            corrected,
-            observed,
-        } => Word {
-            refusal: 0,
-            expected: 0,
-            actual: 0,
-            continuation,
-            message,
-            corrected,
-            observed,
-        },
-        Decoded::Refused(why) => no_word(why),
-    }
+    flat_facch::observe_end(slot, coded)
 }
 
 #[no_mangle]
 pub extern "C" fn bts136_facch_decode(coded: &[u8], dvcc: u8) -> Word
     ensures { λ r. ⌜ FlatDecoded (Decoding (lentDecode (now (coded .entry))) (now (coded .entry)) dvcc) r ⌝ }
 {
-    flat_decoded(facch::decode(coded, dvcc))
+    flat_facch::decode(coded, dvcc)
 }
 
 #[no_mangle]
 pub extern "C" fn bts136_facch_decode_erased(coded: &[u8], dvcc: u8) -> Word
     ensures { λ r. ⌜ FlatDecoded (Decoding (lentErased (now (coded .entry))) (now (coded .entry)) dvcc) r ⌝ }
 {
-    flat_decoded(facch::decode_erased(coded, dvcc))
+    flat_facch::decode_erased(coded, dvcc)
 }

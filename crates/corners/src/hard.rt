@@ -4,6 +4,7 @@ use coding::checksum::CrcMode;
 use dcch::BlockFormat;
 use dcch::decode;
 use dcch::encode;
+ghost use Prim.Native.Nat.{_≤_};
 
 pub fn corners() {
     zeros();
@@ -81,30 +82,47 @@ fn try_encode(format: BlockFormat, information: &[u8], block: &mut [u8]) {
     report::encoded(answer, block);
 }
 
+// The same of so many bytes: zeros, and room that is untouched.
+fn decode_lengths(format: BlockFormat, received: usize, room: usize)
+    requires { ⌜ (received ≤ 261) × (room ≤ 261) ⌝ }
+{
+    let block = [0u8; 261];
+    let mut information = [9u8; 261];
+    try_decode(format, &block[..received], &mut information[..room]);
+}
+
+fn encode_lengths(format: BlockFormat, given: usize, room: usize)
+    requires { ⌜ (given ≤ 261) × (room ≤ 261) ⌝ }
+{
+    let information = [0u8; 261];
+    let mut block = [9u8; 261];
+    try_encode(format, &information[..given], &mut block[..room]);
+}
+
 // Every length one short and one long.
 fn wrong_lengths() {
-    try_decode(BlockFormat::Forward, &[0u8; 259], &mut [9u8; 109]);
-    try_decode(BlockFormat::Forward, &[0u8; 261], &mut [9u8; 109]);
-    try_decode(BlockFormat::Forward, &[0u8; 260], &mut [9u8; 108]);
-    try_decode(BlockFormat::Forward, &[0u8; 260], &mut [9u8; 110]);
-    try_decode(BlockFormat::ReverseNormal, &[0u8; 243], &mut [9u8; 101]);
-    try_decode(BlockFormat::ReverseNormal, &[0u8; 245], &mut [9u8; 101]);
-    try_decode(BlockFormat::ReverseNormal, &[0u8; 244], &mut [9u8; 100]);
-    try_decode(BlockFormat::ReverseNormal, &[0u8; 244], &mut [9u8; 102]);
-    try_decode(BlockFormat::ReverseAbbreviated, &[0u8; 199], &mut [9u8; 79]);
-    try_decode(BlockFormat::ReverseAbbreviated, &[0u8; 201], &mut [9u8; 79]);
-    try_decode(BlockFormat::ReverseAbbreviated, &[0u8; 200], &mut [9u8; 78]);
-    try_decode(BlockFormat::ReverseAbbreviated, &[0u8; 200], &mut [9u8; 80]);
-    try_encode(BlockFormat::Forward, &[0u8; 108], &mut [9u8; 260]);
-    try_encode(BlockFormat::Forward, &[0u8; 110], &mut [9u8; 260]);
-    try_encode(BlockFormat::Forward, &[0u8; 109], &mut [9u8; 259]);
-    try_encode(BlockFormat::Forward, &[0u8; 109], &mut [9u8; 261]);
-    try_encode(BlockFormat::ReverseNormal, &[0u8; 100], &mut [9u8; 244]);
-    try_encode(BlockFormat::ReverseNormal, &[0u8; 102], &mut [9u8; 244]);
-    try_encode(BlockFormat::ReverseNormal, &[0u8; 101], &mut [9u8; 243]);
-    try_encode(BlockFormat::ReverseNormal, &[0u8; 101], &mut [9u8; 245]);
-    try_encode(BlockFormat::ReverseAbbreviated, &[0u8; 78], &mut [9u8; 200]);
-    try_encode(BlockFormat::ReverseAbbreviated, &[0u8; 80], &mut [9u8; 200]);
-    try_encode(BlockFormat::ReverseAbbreviated, &[0u8; 79], &mut [9u8; 199]);
-    try_encode(BlockFormat::ReverseAbbreviated, &[0u8; 79], &mut [9u8; 201]);
+    decode_lengths(BlockFormat::Forward, 259, 109);
+    decode_lengths(BlockFormat::Forward, 261, 109);
+    decode_lengths(BlockFormat::Forward, 260, 108);
+    decode_lengths(BlockFormat::Forward, 260, 110);
+    decode_lengths(BlockFormat::ReverseNormal, 243, 101);
+    decode_lengths(BlockFormat::ReverseNormal, 245, 101);
+    decode_lengths(BlockFormat::ReverseNormal, 244, 100);
+    decode_lengths(BlockFormat::ReverseNormal, 244, 102);
+    decode_lengths(BlockFormat::ReverseAbbreviated, 199, 79);
+    decode_lengths(BlockFormat::ReverseAbbreviated, 201, 79);
+    decode_lengths(BlockFormat::ReverseAbbreviated, 200, 78);
+    decode_lengths(BlockFormat::ReverseAbbreviated, 200, 80);
+    encode_lengths(BlockFormat::Forward, 108, 260);
+    encode_lengths(BlockFormat::Forward, 110, 260);
+    encode_lengths(BlockFormat::Forward, 109, 259);
+    encode_lengths(BlockFormat::Forward, 109, 261);
+    encode_lengths(BlockFormat::ReverseNormal, 100, 244);
+    encode_lengths(BlockFormat::ReverseNormal, 102, 244);
+    encode_lengths(BlockFormat::ReverseNormal, 101, 243);
+    encode_lengths(BlockFormat::ReverseNormal, 101, 245);
+    encode_lengths(BlockFormat::ReverseAbbreviated, 78, 200);
+    encode_lengths(BlockFormat::ReverseAbbreviated, 80, 200);
+    encode_lengths(BlockFormat::ReverseAbbreviated, 79, 199);
+    encode_lengths(BlockFormat::ReverseAbbreviated, 79, 201);
 }

@@ -3,6 +3,7 @@ use crate::report;
 use coding::checksum::CrcMode;
 use dcch::BlockFormat;
 use dcch::decode_soft;
+ghost use Prim.Native.Nat.{_≤_};
 
 pub fn corners() {
     report::text(b"decode_soft, zeros");
@@ -71,34 +72,27 @@ fn try_lengths(format: BlockFormat, block: &[f64], information: &mut [u8]) {
     report::decoded(answer, information);
 }
 
+// The same of so many zeros, and room that is untouched.
+fn soft_lengths(format: BlockFormat, received: usize, room: usize)
+    requires { ⌜ (received ≤ 261) × (room ≤ 261) ⌝ }
+{
+    let block = [0.0f64; 261];
+    let mut information = [9u8; 261];
+    try_lengths(format, &block[..received], &mut information[..room]);
+}
+
 // Every length one short and one long.
 fn wrong_lengths() {
-    try_lengths(BlockFormat::Forward, &[0.0f64; 259], &mut [9u8; 109]);
-    try_lengths(BlockFormat::Forward, &[0.0f64; 261], &mut [9u8; 109]);
-    try_lengths(BlockFormat::Forward, &[0.0f64; 260], &mut [9u8; 108]);
-    try_lengths(BlockFormat::Forward, &[0.0f64; 260], &mut [9u8; 110]);
-    try_lengths(BlockFormat::ReverseNormal, &[0.0f64; 243], &mut [9u8; 101]);
-    try_lengths(BlockFormat::ReverseNormal, &[0.0f64; 245], &mut [9u8; 101]);
-    try_lengths(BlockFormat::ReverseNormal, &[0.0f64; 244], &mut [9u8; 100]);
-    try_lengths(BlockFormat::ReverseNormal, &[0.0f64; 244], &mut [9u8; 102]);
-    try_lengths(
-        BlockFormat::ReverseAbbreviated,
-        &[0.0f64; 199],
-        &mut [9u8; 79],
-    );
-    try_lengths(
-        BlockFormat::ReverseAbbreviated,
-        &[0.0f64; 201],
-        &mut [9u8; 79],
-    );
-    try_lengths(
-        BlockFormat::ReverseAbbreviated,
-        &[0.0f64; 200],
-        &mut [9u8; 78],
-    );
-    try_lengths(
-        BlockFormat::ReverseAbbreviated,
-        &[0.0f64; 200],
-        &mut [9u8; 80],
-    );
+    soft_lengths(BlockFormat::Forward, 259, 109);
+    soft_lengths(BlockFormat::Forward, 261, 109);
+    soft_lengths(BlockFormat::Forward, 260, 108);
+    soft_lengths(BlockFormat::Forward, 260, 110);
+    soft_lengths(BlockFormat::ReverseNormal, 243, 101);
+    soft_lengths(BlockFormat::ReverseNormal, 245, 101);
+    soft_lengths(BlockFormat::ReverseNormal, 244, 100);
+    soft_lengths(BlockFormat::ReverseNormal, 244, 102);
+    soft_lengths(BlockFormat::ReverseAbbreviated, 199, 79);
+    soft_lengths(BlockFormat::ReverseAbbreviated, 201, 79);
+    soft_lengths(BlockFormat::ReverseAbbreviated, 200, 78);
+    soft_lengths(BlockFormat::ReverseAbbreviated, 200, 80);
 }

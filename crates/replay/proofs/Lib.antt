@@ -1,3 +1,2 @@
--- The laws that the functions' proofs cite.
-pub mod Agreeing
-pub mod BlockLines
+-- The laws.
+pub mod Replaying

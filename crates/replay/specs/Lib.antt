@@ -1,3 +1,2 @@
--- The lines of a list of calls, and what it means that a line's answer is right: the definitions.
-pub mod Blocks
+-- Lines whose answers are right.
 pub mod Calls

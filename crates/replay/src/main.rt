@@ -1,5 +1,4 @@
 // Replays a list of calls with the answers of the original Rust: each line that differs is printed, and the counts last.
-mod blocks;
 mod calls;
 
 use libc::STDIN_FILENO;

@@ -1,2 +1,3 @@
 -- The laws of characters and shapes.
 pub mod Reading
+pub mod Parts

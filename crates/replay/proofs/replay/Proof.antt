@@ -2,7 +2,7 @@
 use Prim.Native.Nat.{_+_, _-_}
 use native.Mathlib.Omega.{arith}
 use lib.ListN.{length}
-use Rattle.replay.proofs.Agreeing.{Replaying, replaying-none, replaying-more, replaying-done}
+use Rattle.replay.proofs.Replaying.{Replaying, replaying-none, replaying-more, replaying-done}
 use borrow.Author.Needs.{needs}
 use Rattle.replay.proofs.replay.Statement.{statement}
 use Rattle.replay.proofs.replay.Tie as tie

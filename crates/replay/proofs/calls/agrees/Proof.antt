@@ -1,6 +1,6 @@
 -- `replay::calls::agrees` meets its contract: by the letter. Assumes nothing.
 use Rattle.replay.specs.Calls.{dcch-line, acelp-line, facch-line, speech-line, search-line, encode-line, decode-line, soft-line}
-use Rattle.replay.proofs.Agreeing.{never}
+use Rattle.text.proofs.Parts.{never}
 use borrow.Author.Needs.{needs}
 use Rattle.replay.proofs.calls.agrees.Statement.{statement}
 use Rattle.replay.proofs.calls.agrees.Tie as tie

@@ -5,8 +5,9 @@ use Prim.Native.Nat.{ℕ, _+_, _*_}
 use native.Mathlib.Omega.{arith}
 use Rattle.bits.proofs.LentPart.{part-length}
 use Rattle.coding.specs.declared.checksum.CrcMode.the-variants.{Broadcast, Addressed}
-use Rattle.replay.specs.Calls.{ChecksumIs, addressed-line, broadcast-line}
-use Rattle.replay.proofs.Agreeing.{never, of-rest}
+use Rattle.replay.specs.Calls.{addressed-line, broadcast-line}
+use Rattle.replay_coding.specs.Calls.{ChecksumIs}
+use Rattle.text.proofs.Parts.{never, of-rest}
 use borrow.Author.Needs.{needs}
 use Rattle.replay.proofs.calls.checksum_agrees.Statement.{statement}
 use Rattle.replay.proofs.calls.checksum_agrees.Tie as tie

@@ -1,4 +1,0 @@
--- The laws.
-pub mod Steps
-pub mod Searches
-pub mod Carried

@@ -1,0 +1,110 @@
+// Speech frames of VSELP and ACELP CC1, and the slots that carry them.
+use flat_calls::Written;
+use flat_speech::Frame;
+ghost use Rattle.acelp_cc1.specs.Calls as acelp_calls;
+ghost use Rattle.acelp_slots.specs.Wire as acelp_wire;
+ghost use Rattle.acelp_slots.specs.declared.Interleaving.the-variants.{One, Two, Three};
+ghost use Rattle.flat_calls.specs.Calls.{FlatWrote};
+ghost use Rattle.flat_speech.specs.Frames.{FlatFrame, acelpFrame, vselpFrame};
+ghost use Rattle.speech.specs.Calls as vselp_calls;
+ghost use Rattle.speech_slots.specs.Wire as vselp_wire;
+
+#[no_mangle]
+pub extern "C" fn bts136_speech_encode(
+    class_one: &[u8],
+    class_two: &[u8],
+    frame: &mut [u8],
+) -> Written
+    ensures { λ r. ⌜ FlatWrote (vselp_calls.Encoding (now («class_one» .entry)) (now («class_two» .entry)) (now (frame .entry)) (now (frame .exit))) r ⌝ }
+{
+    flat_speech::vselp_encode(class_one, class_two, frame)
+}
+
+#[no_mangle]
+pub extern "C" fn bts136_speech_decode_candidate(
+    frame: &[u8],
+    class_one: &mut [u8],
+    class_two: &mut [u8],
+) -> Frame
+    ensures { λ r. ⌜ FlatFrame vselpFrame (vselp_calls.Decoding (now (frame .entry)) (now («class_one» .entry)) (now («class_two» .entry)) (now («class_one» .exit)) (now («class_two» .exit))) r ⌝ }
+{
+    flat_speech::vselp_decode_candidate(frame, class_one, class_two)
+}
+
+#[no_mangle]
+pub extern "C" fn bts136_speech_interleave(
+    previous: &[u8],
+    current: &[u8],
+    slot: &mut [u8],
+) -> Written
+    ensures { λ r. ⌜ FlatWrote (vselp_wire.Interleaving (now (previous .entry)) (now (current .entry)) (now (slot .entry)) (now (slot .exit))) r ⌝ }
+{
+    flat_speech::vselp_interleave(previous, current, slot)
+}
+
+#[no_mangle]
+pub extern "C" fn bts136_speech_deinterleave(
+    first: &[u8],
+    second: &[u8],
+    frame: &mut [u8],
+) -> Written
+    ensures { λ r. ⌜ FlatWrote (vselp_wire.Deinterleaving (now (first .entry)) (now (second .entry)) (now (frame .entry)) (now (frame .exit))) r ⌝ }
+{
+    flat_speech::vselp_deinterleave(first, second, frame)
+}
+
+#[no_mangle]
+pub extern "C" fn bts136_acelp_encode(speech: &[u8], frame: &mut [u8]) -> Written
+    ensures { λ r. ⌜ FlatWrote (acelp_calls.Encoding (now (speech .entry)) (now (frame .entry)) (now (frame .exit))) r ⌝ }
+{
+    flat_speech::acelp_encode(speech, frame)
+}
+
+#[no_mangle]
+pub extern "C" fn bts136_acelp_decode(frame: &[u8], speech: &mut [u8]) -> Frame
+    ensures { λ r. ⌜ FlatFrame acelpFrame (acelp_calls.Decoding (now (frame .entry)) (now (speech .entry)) (now (speech .exit))) r ⌝ }
+{
+    flat_speech::acelp_decode(frame, speech)
+}
+
+#[no_mangle]
+pub extern "C" fn bts136_acelp_interleave_one(history: &[u8], slot: &mut [u8]) -> Written
+    ensures { λ r. ⌜ FlatWrote (acelp_wire.InterleavingCall (now (history .entry)) One (now (slot .entry)) (now (slot .exit))) r ⌝ }
+{
+    flat_speech::acelp_interleave_one(history, slot)
+}
+
+#[no_mangle]
+pub extern "C" fn bts136_acelp_deinterleave_one(slots: &[u8], frame: &mut [u8]) -> Written
+    ensures { λ r. ⌜ FlatWrote (acelp_wire.DeinterleavingCall (now (slots .entry)) One (now (frame .entry)) (now (frame .exit))) r ⌝ }
+{
+    flat_speech::acelp_deinterleave_one(slots, frame)
+}
+
+#[no_mangle]
+pub extern "C" fn bts136_acelp_interleave_two(history: &[u8], slot: &mut [u8]) -> Written
+    ensures { λ r. ⌜ FlatWrote (acelp_wire.InterleavingCall (now (history .entry)) Two (now (slot .entry)) (now (slot .exit))) r ⌝ }
+{
+    flat_speech::acelp_interleave_two(history, slot)
+}
+
+#[no_mangle]
+pub extern "C" fn bts136_acelp_deinterleave_two(slots: &[u8], frame: &mut [u8]) -> Written
+    ensures { λ r. ⌜ FlatWrote (acelp_wire.DeinterleavingCall (now (slots .entry)) Two (now (frame .entry)) (now (frame .exit))) r ⌝ }
+{
+    flat_speech::acelp_deinterleave_two(slots, frame)
+}
+
+#[no_mangle]
+pub extern "C" fn bts136_acelp_interleave_three(history: &[u8], slot: &mut [u8]) -> Written
+    ensures { λ r. ⌜ FlatWrote (acelp_wire.InterleavingCall (now (history .entry)) Three (now (slot .entry)) (now (slot .exit))) r ⌝ }
+{
+    flat_speech::acelp_interleave_three(history, slot)
+}
+
+#[no_mangle]
+pub extern "C" fn bts136_acelp_deinterleave_three(slots: &[u8], frame: &mut [u8]) -> Written
+    ensures { λ r. ⌜ FlatWrote (acelp_wire.DeinterleavingCall (now (slots .entry)) Three (now (frame .entry)) (now (frame .exit))) r ⌝ }
+{
+    flat_speech::acelp_deinterleave_three(slots, frame)
+}

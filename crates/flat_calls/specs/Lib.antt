@@ -1,0 +1,2 @@
+-- The answers of calls that write bits.
+pub mod Calls

@@ -1,0 +1,39 @@
+-- `flat_coding::facch_transition` meets its contract: a refusal, or the step. Assumes nothing.
+use mathlib.Core.Path.{sym, _∙_}
+use Rattle.flat_coding.proofs.Steps.{fine-step, by-refusal, by-step, four-outputs}
+use borrow.Author.Needs.{needs}
+use Rattle.flat_coding.proofs.facch_transition.Statement.{statement}
+use Rattle.flat_coding.proofs.facch_transition.Tie as tie
+
+step-refusal-requires : tie.Need-step-refusal-requires
+step-refusal-requires c κs = search needs
+
+enum-known-ready : tie.Need-enum-known-ready
+enum-known-ready c = search needs
+
+no-step-requires : tie.Need-no-step-requires
+no-step-requires c κs = search needs
+
+returns : tie.Need-returns
+returns c = by-refusal (c .before .before .before .before .step-refusal .ensures) _ (c .before .before .ready .given .1) (c .no-step .ensures)
+
+enum-told : tie.Need-enum-told
+enum-told c = search needs
+
+transition-requires : tie.Need-transition-requires
+transition-requires c κs = fine-step _ _ (sym (c .before .before .step-refusal .ensures) ∙ c .enum-told .given .1)
+
+returns-2 : tie.Need-returns-2
+returns-2 c = by-step (c .before .before .before .before .step-refusal .ensures) (c .before .before .enum-told .given .1) (four-outputs (c .before .transition .ensures))
+
+pub facch-transition-spec : {M : Type 1} → statement M
+facch-transition-spec =
+    tie.close
+    (tie.spec
+    step-refusal-requires
+    enum-known-ready
+    no-step-requires
+    returns
+    enum-told
+    transition-requires
+    returns-2)

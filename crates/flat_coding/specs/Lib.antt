@@ -1,0 +1,2 @@
+-- What the flat functions over `coding` answer.
+pub mod Flat

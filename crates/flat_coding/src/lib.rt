@@ -1,0 +1,135 @@
+// Flat functions over `coding`: one step of each code, and the checksums. Each answers a number of document 01, or 0 with its result.
+use bits::Lent;
+use bits::Refusal;
+use bits::number;
+use coding::checksum::Checked;
+use coding::checksum::CrcMode;
+ghost use mathlib.Core.Path.{_≡_};
+ghost use Rattle.bits.specs.Bits.{bits};
+ghost use Rattle.coding.specs.Checksums.{answerOf, checksum7Of, checksumOf, ofBits};
+ghost use Rattle.coding.specs.Codes.{acelp, dcch, facch};
+ghost use Rattle.coding.specs.Registers.{memoryHigh, memoryLow};
+ghost use Rattle.flat_coding.specs.Flat.{StepAnswer, flatChecksum, lentStep, modeOf, noStep};
+
+#[repr(C)]
+pub struct Step {
+    pub refusal: u8,
+    pub next: u8,
+    pub output: [u8; 4],
+}
+
+#[repr(C)]
+pub struct Checksum {
+    pub refusal: u8,
+    pub value: u16,
+}
+
+// Whether there is such a state and such an input.
+fn step_refusal(state: u8, input: u8) -> Lent
+    ensures { λ r. ⌜ r ≡ lentStep state input ⌝ }
+{
+    if 31 < state {
+        return Lent::Refused(Refusal::State);
+    }
+    if 1 < input {
+        return Lent::Refused(Refusal::Symbol);
+    }
+    Lent::Fine
+}
+
+fn no_step(why: Refusal) -> Step
+    ensures { λ r. ⌜ r ≡ noStep why ⌝ }
+{
+    Step {
+        refusal: number(why),
+        next: 0,
+        output: [0; 4],
+    }
+}
+
+// One step of the code of DCCH, SACCH and VSELP.
+pub fn dcch_transition(state: u8, input: u8) -> Step
+    ensures { λ r. ⌜ StepAnswer dcch memoryHigh state input r ⌝ }
+{
+    let ready = step_refusal(state, input);
+    if let Lent::Refused(why) = ready {
+        return no_step(why);
+    }
+    let step = coding::dcch::transition(state, input);
+    let output = step.output;
+    Step {
+        refusal: 0,
+        next: step.next,
+        output: [output[0], output[1], 0, 0],
+    }
+}
+
+// One step of the code of FACCH.
+pub fn facch_transition(state: u8, input: u8) -> Step
+    ensures { λ r. ⌜ StepAnswer facch memoryHigh state input r ⌝ }
+{
+    let ready = step_refusal(state, input);
+    if let Lent::Refused(why) = ready {
+        return no_step(why);
+    }
+    let step = coding::facch::transition(state, input);
+    let output = step.output;
+    Step {
+        refusal: 0,
+        next: step.next,
+        output,
+    }
+}
+
+// One step of the code of ACELP CC1.
+pub fn acelp_transition(state: u8, input: u8) -> Step
+    ensures { λ r. ⌜ StepAnswer acelp memoryLow state input r ⌝ }
+{
+    let ready = step_refusal(state, input);
+    if let Lent::Refused(why) = ready {
+        return no_step(why);
+    }
+    let step = coding::acelp::transition(state, input);
+    let output = step.output;
+    Step {
+        refusal: 0,
+        next: step.next,
+        output: [output[0], output[1], 0, 0],
+    }
+}
+
+pub fn mode_of(broadcast: bool) -> CrcMode
+    ensures { λ r. ⌜ r ≡ modeOf broadcast ⌝ }
+{
+    if broadcast {
+        CrcMode::Broadcast
+    } else {
+        CrcMode::Addressed
+    }
+}
+
+fn flat_checksum(checked: Checked) -> Checksum
+    ensures { λ r. ⌜ r ≡ flatChecksum (answerOf checked) ⌝ }
+{
+    match checked {
+        Checked::Value(value) => Checksum { refusal: 0, value },
+        Checked::Refused(why) => Checksum {
+            refusal: number(why),
+            value: 0,
+        },
+    }
+}
+
+// The 16-bit checksum of information under a colour code, complemented for broadcast.
+pub fn checksum16(information: &[u8], dvcc: u8, broadcast: bool) -> Checksum
+    ensures { λ r. ⌜ r ≡ flatChecksum (ofBits (now (information .entry)) (checksumOf (bits (now (information .entry))) dvcc (modeOf broadcast))) ⌝ }
+{
+    flat_checksum(coding::checksum::checksum(information, dvcc, mode_of(broadcast)))
+}
+
+// The 7-bit checksum of a speech frame's information.
+pub fn checksum7(information: &[u8]) -> Checksum
+    ensures { λ r. ⌜ r ≡ flatChecksum (ofBits (now (information .entry)) (checksum7Of (bits (now (information .entry))))) ⌝ }
+{
+    flat_checksum(coding::checksum::checksum7(information))
+}

@@ -1,0 +1,28 @@
+-- `flat_dcch::decode_soft` meets its contract: what `dcch::decode_soft` answers, made flat. Assumes nothing.
+use Rattle.flat_dcch.proofs.Carried.{decoded-flat}
+use Rattle.dcch.specs.SoftBlocks.{SoftDecoding}
+use borrow.Author.Needs.{needs}
+use Rattle.flat_dcch.proofs.decode_soft.Statement.{statement}
+use Rattle.flat_dcch.proofs.decode_soft.Tie as tie
+
+mode-of-requires : tie.Need-mode-of-requires
+mode-of-requires c κs = search needs
+
+decode-soft-requires : tie.Need-decode-soft-requires
+decode-soft-requires c κs = search needs
+
+flat-decoded-requires : tie.Need-flat-decoded-requires
+flat-decoded-requires c κs = search needs
+
+same-length : tie.Need-same-length
+same-length c = search needs
+
+returns : tie.Need-returns
+returns c =
+    let entry = c .before .before .before .before .before .before .before .before .args in
+    decoded-flat (λ m. SoftDecoding (entry .format) (entry .block .now) (entry .dvcc) m (entry .information .now) (c .before .before .before .decode-soft .last .1 .1 .1 .1 .0)) (c .before .before .before .decode-soft .result) (c .before .before .before .before .before .mode-of .ensures) (c .before .before .before .decode-soft .ensures) (c .flat-decoded .ensures)
+
+pub decode-soft-spec : {M : Type 1} → statement M
+decode-soft-spec =
+    tie.close
+    (tie.spec mode-of-requires decode-soft-requires flat-decoded-requires same-length returns)

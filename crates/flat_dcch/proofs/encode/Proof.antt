@@ -1,0 +1,27 @@
+-- `flat_dcch::encode` meets its contract: what `dcch::encode` answers, made flat. Assumes nothing.
+use Rattle.flat_dcch.proofs.Carried.{encoded-flat}
+use Rattle.dcch_block.specs.Blocks.{Encoding}
+use borrow.Author.Needs.{needs}
+use Rattle.flat_dcch.proofs.encode.Statement.{statement}
+use Rattle.flat_dcch.proofs.encode.Tie as tie
+
+mode-of-requires : tie.Need-mode-of-requires
+mode-of-requires c κs = search needs
+
+encode-requires : tie.Need-encode-requires
+encode-requires c κs = search needs
+
+flat-encoded-requires : tie.Need-flat-encoded-requires
+flat-encoded-requires c κs = search needs
+
+same-length : tie.Need-same-length
+same-length c = search needs
+
+returns : tie.Need-returns
+returns c =
+    let entry = c .before .before .before .before .before .before .before .before .args in
+    encoded-flat (λ m. Encoding (entry .format) (entry .information .now) (entry .dvcc) m (entry .block .now) (c .before .before .before .encode .last .1 .1 .1 .1 .0)) (c .before .before .before .encode .result) (c .before .before .before .before .before .mode-of .ensures) (c .before .before .before .encode .ensures) (c .flat-encoded .ensures)
+
+pub encode-spec : {M : Type 1} → statement M
+encode-spec =
+    tie.close (tie.spec mode-of-requires encode-requires flat-encoded-requires same-length returns)

@@ -1,0 +1,2 @@
+-- What the flat functions over `dcch` answer.
+pub mod Blocks

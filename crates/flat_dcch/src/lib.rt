@@ -1,0 +1,225 @@
+// Flat functions over `dcch`: one for each format, since C has no enum of ours. Each answers a number of document 01, or 0 with its result.
+use bits::Wrote;
+use bits::actual;
+use bits::expected;
+use bits::number;
+use dcch::BlockFormat;
+use dcch::Decoded;
+use flat_coding::mode_of;
+ghost use mathlib.Core.Path.{_≡_};
+ghost use Rattle.dcch_block.specs.Blocks.{Decoding, Encoding, decodeAnswer};
+ghost use Rattle.bits.specs.Calls.{wroteAnswer};
+ghost use Rattle.dcch.specs.SoftBlocks.{SoftDecoding};
+ghost use Rattle.flat_dcch.specs.Blocks.{FlatDecoded, FlatEncoded, flatDone, flatCorrected};
+ghost use Rattle.flat_coding.specs.Flat.{modeOf};
+
+// corrected is that of an accepted decoding; expected and actual are those of a refusal for length.
+#[repr(C)]
+pub struct Block {
+    pub refusal: u8,
+    pub expected: usize,
+    pub actual: usize,
+    pub corrected: u16,
+}
+
+fn flat_encoded(answer: Wrote) -> Block
+    ensures { λ r. ⌜ r ≡ flatDone (wroteAnswer answer) ⌝ }
+{
+    match answer {
+        Wrote::Done => Block {
+            refusal: 0,
+            expected: 0,
+            actual: 0,
+            corrected: 0,
+        },
+        Wrote::Refused(why) => Block {
+            refusal: number(why),
+            expected: expected(why),
+            actual: actual(why),
+            corrected: 0,
+        },
+    }
+}
+
+fn flat_decoded(answer: Decoded) -> Block
+    ensures { λ r. ⌜ r ≡ flatCorrected (decodeAnswer answer) ⌝ }
+{
+    match answer {
+        Decoded::Accepted(corrected) => Block {
+            refusal: 0,
+            expected: 0,
+            actual: 0,
+            corrected,
+        },
+        Decoded::Refused(why) => Block {
+            refusal: number(why),
+            expected: expected(why),
+            actual: actual(why),
+            corrected: 0,
+        },
+    }
+}
+
+fn encode(
+    format: BlockFormat,
+    information: &[u8],
+    dvcc: u8,
+    broadcast: bool,
+    block: &mut [u8],
+) -> Block
+    ensures { λ r. ⌜ FlatEncoded (Encoding format (now (information .entry)) dvcc (modeOf broadcast) (now (block .entry)) (now (block .exit))) r ⌝ }
+{
+    let mode = mode_of(broadcast);
+    flat_encoded(dcch::encode(format, information, dvcc, mode, block))
+}
+
+pub fn encode_forward(information: &[u8], dvcc: u8, broadcast: bool, block: &mut [u8]) -> Block
+    ensures { λ r. ⌜ FlatEncoded (Encoding BlockFormat.Forward (now (information .entry)) dvcc (modeOf broadcast) (now (block .entry)) (now (block .exit))) r ⌝ }
+{
+    encode(BlockFormat::Forward, information, dvcc, broadcast, block)
+}
+
+pub fn encode_reverse_normal(
+    information: &[u8],
+    dvcc: u8,
+    broadcast: bool,
+    block: &mut [u8],
+) -> Block
+    ensures { λ r. ⌜ FlatEncoded (Encoding BlockFormat.ReverseNormal (now (information .entry)) dvcc (modeOf broadcast) (now (block .entry)) (now (block .exit))) r ⌝ }
+{
+    encode(
+        BlockFormat::ReverseNormal,
+        information,
+        dvcc,
+        broadcast,
+        block,
+    )
+}
+
+pub fn encode_reverse_abbreviated(
+    information: &[u8],
+    dvcc: u8,
+    broadcast: bool,
+    block: &mut [u8],
+) -> Block
+    ensures { λ r. ⌜ FlatEncoded (Encoding BlockFormat.ReverseAbbreviated (now (information .entry)) dvcc (modeOf broadcast) (now (block .entry)) (now (block .exit))) r ⌝ }
+{
+    encode(
+        BlockFormat::ReverseAbbreviated,
+        information,
+        dvcc,
+        broadcast,
+        block,
+    )
+}
+
+fn decode(
+    format: BlockFormat,
+    block: &[u8],
+    dvcc: u8,
+    broadcast: bool,
+    information: &mut [u8],
+) -> Block
+    ensures { λ r. ⌜ FlatDecoded (Decoding format (now (block .entry)) dvcc (modeOf broadcast) (now (information .entry)) (now (information .exit))) r ⌝ }
+{
+    let mode = mode_of(broadcast);
+    flat_decoded(dcch::decode(format, block, dvcc, mode, information))
+}
+
+pub fn decode_forward(block: &[u8], dvcc: u8, broadcast: bool, information: &mut [u8]) -> Block
+    ensures { λ r. ⌜ FlatDecoded (Decoding BlockFormat.Forward (now (block .entry)) dvcc (modeOf broadcast) (now (information .entry)) (now (information .exit))) r ⌝ }
+{
+    decode(BlockFormat::Forward, block, dvcc, broadcast, information)
+}
+
+pub fn decode_reverse_normal(
+    block: &[u8],
+    dvcc: u8,
+    broadcast: bool,
+    information: &mut [u8],
+) -> Block
+    ensures { λ r. ⌜ FlatDecoded (Decoding BlockFormat.ReverseNormal (now (block .entry)) dvcc (modeOf broadcast) (now (information .entry)) (now (information .exit))) r ⌝ }
+{
+    decode(
+        BlockFormat::ReverseNormal,
+        block,
+        dvcc,
+        broadcast,
+        information,
+    )
+}
+
+pub fn decode_reverse_abbreviated(
+    block: &[u8],
+    dvcc: u8,
+    broadcast: bool,
+    information: &mut [u8],
+) -> Block
+    ensures { λ r. ⌜ FlatDecoded (Decoding BlockFormat.ReverseAbbreviated (now (block .entry)) dvcc (modeOf broadcast) (now (information .entry)) (now (information .exit))) r ⌝ }
+{
+    decode(
+        BlockFormat::ReverseAbbreviated,
+        block,
+        dvcc,
+        broadcast,
+        information,
+    )
+}
+
+fn decode_soft(
+    format: BlockFormat,
+    block: &[f64],
+    dvcc: u8,
+    broadcast: bool,
+    information: &mut [u8],
+) -> Block
+    ensures { λ r. ⌜ FlatDecoded (SoftDecoding format (now (block .entry)) dvcc (modeOf broadcast) (now (information .entry)) (now (information .exit))) r ⌝ }
+{
+    let mode = mode_of(broadcast);
+    flat_decoded(dcch::decode_soft(format, block, dvcc, mode, information))
+}
+
+pub fn decode_soft_forward(
+    block: &[f64],
+    dvcc: u8,
+    broadcast: bool,
+    information: &mut [u8],
+) -> Block
+    ensures { λ r. ⌜ FlatDecoded (SoftDecoding BlockFormat.Forward (now (block .entry)) dvcc (modeOf broadcast) (now (information .entry)) (now (information .exit))) r ⌝ }
+{
+    decode_soft(BlockFormat::Forward, block, dvcc, broadcast, information)
+}
+
+pub fn decode_soft_reverse_normal(
+    block: &[f64],
+    dvcc: u8,
+    broadcast: bool,
+    information: &mut [u8],
+) -> Block
+    ensures { λ r. ⌜ FlatDecoded (SoftDecoding BlockFormat.ReverseNormal (now (block .entry)) dvcc (modeOf broadcast) (now (information .entry)) (now (information .exit))) r ⌝ }
+{
+    decode_soft(
+        BlockFormat::ReverseNormal,
+        block,
+        dvcc,
+        broadcast,
+        information,
+    )
+}
+
+pub fn decode_soft_reverse_abbreviated(
+    block: &[f64],
+    dvcc: u8,
+    broadcast: bool,
+    information: &mut [u8],
+) -> Block
+    ensures { λ r. ⌜ FlatDecoded (SoftDecoding BlockFormat.ReverseAbbreviated (now (block .entry)) dvcc (modeOf broadcast) (now (information .entry)) (now (information .exit))) r ⌝ }
+{
+    decode_soft(
+        BlockFormat::ReverseAbbreviated,
+        block,
+        dvcc,
+        broadcast,
+        information,
+    )
+}

@@ -1,0 +1,2 @@
+-- What the flat functions over `facch` answer.
+pub mod Words

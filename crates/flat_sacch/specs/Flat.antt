@@ -1,0 +1,97 @@
+-- SACCH's answers and the receiver as flat records. A refusal is a number of document 01, or 0.
+use mathlib.Core.Bool.{false, cond}
+use mathlib.Core.List.{List}
+use Prim.Native.Nat.{ℕ}
+use lib.Dec.{eqb}
+use Rattle.bits.specs.Refusals.{Answer, accepted, pending, rejected, refused, numberOf, expectedOf, actualOf}
+use Rattle.bits.specs.declared.Refusal.{Refusal}
+use Rattle.sacch_encoder.specs.Encoder.{Sent}
+use Rattle.sacch_decoder.specs.declared.SacchWord.{SacchWord}
+use Rattle.sacch_receiver.specs.Receiver.{Moved}
+use Rattle.sacch_receiver.specs.declared.SacchReceiver.{SacchReceiver}
+use Rattle.sacch_receiver.specs.declared.Lock.{Lock}
+use Rattle.sacch_receiver.specs.declared.Lock.the-variants.{Unlocked, Locked}
+use Rattle.flat_sacch.specs.declared.Field.{Field}
+use Rattle.flat_sacch.specs.declared.Fields.{Fields}
+use Rattle.flat_sacch.specs.declared.Word.{Word}
+use Rattle.flat_sacch.specs.declared.receiver.Receiver.{Receiver}
+use Rattle.flat_sacch.specs.declared.receiver.Pushed.{Pushed}
+
+abbrev pub numberIn : {A : Type 0} → Answer A → ℕ
+numberIn (accepted x) = 0
+numberIn pending = 0
+numberIn (rejected why) = numberOf why
+numberIn (refused why) = numberOf why
+
+-- ---- the encoder
+abbrev pub flatField : Sent ℕ → Field
+flatField s = record { refusal = numberIn (s .answer); encoder = s .encoder; field = s .made }
+
+abbrev pub flatFields : Sent (List ℕ) → Fields
+flatFields s = record { refusal = numberIn (s .answer); encoder = s .encoder; fields = s .made }
+
+-- ---- the decoder, which is never pending and rejects nothing
+abbrev pub noWord : Refusal → Word
+noWord why =
+    record { refusal = numberOf why; expected = expectedOf why; actual = actualOf why; continuation = false; message = 0; corrected = 0; ending = 0 }
+
+abbrev pub flatWord : Answer SacchWord → Word
+flatWord (accepted w) =
+    record {
+      refusal = 0;
+      expected = 0;
+      actual = 0;
+      continuation = w .continuation;
+      message = w .message;
+      corrected = w .corrected;
+      ending = w .ending;
+    }
+flatWord pending = record { refusal = 0; expected = 0; actual = 0; continuation = false; message = 0; corrected = 0; ending = 0 }
+flatWord (rejected why) = noWord why
+flatWord (refused why) = noWord why
+
+-- ---- the receiver: its lock is the locked phase, or 255 where there is none
+unfoldable pub lockOf : ℕ → Lock
+lockOf lock = cond (eqb lock 255) Unlocked (Locked lock)
+
+abbrev pub lockByte : Lock → ℕ
+lockByte Unlocked = 255
+lockByte (Locked phase) = phase
+
+unfoldable pub receiverOf : Receiver → SacchReceiver
+receiverOf r = record {
+  fields = r .fields;
+  «field_cursor» = r .«field_cursor»;
+  received = r .received;
+  rows = r .rows;
+  «row_cursor» = r .«row_cursor»;
+  available = r .available;
+  phase = r .phase;
+  lock = lockOf (r .lock);
+}
+
+unfoldable pub flatReceiver : SacchReceiver → Receiver
+flatReceiver s = record {
+  fields = s .fields;
+  «field_cursor» = s .«field_cursor»;
+  received = s .received;
+  rows = s .rows;
+  «row_cursor» = s .«row_cursor»;
+  available = s .available;
+  phase = s .phase;
+  lock = lockByte (s .lock);
+}
+
+-- an answer: Pending, a word, a rejection or a refusal
+abbrev pub noWordPushed : ℕ → ℕ → Receiver → Pushed
+noWordPushed kind refusal r = record { kind = kind; refusal = refusal; continuation = false; message = 0; corrected = 0; ending = 0; receiver = r }
+
+abbrev pub flatAnswer : Answer SacchWord → Receiver → Pushed
+flatAnswer pending r = noWordPushed 0 0 r
+flatAnswer (accepted w) r =
+    record { kind = 1; refusal = 0; continuation = w .continuation; message = w .message; corrected = w .corrected; ending = w .ending; receiver = r }
+flatAnswer (rejected why) r = noWordPushed 2 (numberOf why) r
+flatAnswer (refused why) r = noWordPushed 3 (numberOf why) r
+
+unfoldable pub flatMoved : Moved → Pushed
+flatMoved m = flatAnswer (m .answer) (flatReceiver (m .receiver))

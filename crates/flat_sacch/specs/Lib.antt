@@ -1,0 +1,2 @@
+-- What the flat functions over `sacch` answer.
+pub mod Flat

@@ -1,0 +1,2 @@
+-- What the flat functions over speech frames answer.
+pub mod Frames

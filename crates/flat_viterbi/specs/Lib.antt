@@ -1,0 +1,2 @@
+-- What the flat functions over `viterbi` answer.
+pub mod Flat

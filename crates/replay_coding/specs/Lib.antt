@@ -1,0 +1,2 @@
+-- Lines of steps, checksums and searches.
+pub mod Calls

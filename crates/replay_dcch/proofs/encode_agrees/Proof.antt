@@ -1,0 +1,56 @@
+-- `replay_dcch::encode_agrees` meets its contract: what was read is what the text writes. Assumes nothing.
+use mathlib.Core.List.{List}
+use Prim.Native.Nat.{ℕ}
+use native.Mathlib.Omega.{arith}
+use lib.ListN.{length}
+use Rattle.bits.proofs.LentPart.{part-length, whole-length}
+use Rattle.text.specs.Lines.{bitsIn}
+use Rattle.replay_dcch.specs.Blocks.{Encodes}
+use Rattle.text.proofs.Parts.{part-is}
+use borrow.Author.Needs.{needs}
+use Rattle.replay_dcch.proofs.encode_agrees.Statement.{statement}
+use Rattle.replay_dcch.proofs.encode_agrees.Tie as tie
+
+array-borrow-prefix-bits : tie.Need-array-borrow-prefix-bits
+array-borrow-prefix-bits c = search needs
+
+slice-aggregate-read-bits : tie.Need-slice-aggregate-read-bits
+slice-aggregate-read-bits c = part-length _ _ (omega arith)
+
+read-bits-requires : tie.Need-read-bits-requires
+read-bits-requires c κs = part-length _ _ (omega arith)
+
+array-share-prefix-bits : tie.Need-array-share-prefix-bits
+array-share-prefix-bits c = whole-length _ _ (omega arith) (c .before .read-bits .last .1 .0) (c .before .read-bits .kept .1 .0)
+
+slice-aggregate-encodes : tie.Need-slice-aggregate-encodes
+slice-aggregate-encodes c = part-length _ _ (whole-length _ _ (omega arith) (c .before .before .read-bits .last .1 .0) (c .before .before .read-bits .kept .1 .0))
+
+array-borrow-prefix-made : tie.Need-array-borrow-prefix-made
+array-borrow-prefix-made c = search needs
+
+slice-aggregate-encodes-2 : tie.Need-slice-aggregate-encodes-2
+slice-aggregate-encodes-2 c = part-length _ _ (omega arith)
+
+encodes-requires : tie.Need-encodes-requires
+encodes-requires c κs = search needs
+
+returns : tie.Need-returns
+returns c = λ e.
+    let begin = c .before .before .before .before .before .before .before .before .before .args in
+    let read = c .before .before .before .before .before .read-bits in
+    part-is (λ (l : List ℕ). Encodes (begin .format) l (begin .dvcc) (begin .mode) (bitsIn (begin .block .now))) (length (begin .information .now)) _ (read .last .1 .0) _ (omega arith) (read .kept .1 .0) (read .ensures) (c .before .encodes .ensures e)
+
+pub encode-agrees-spec : {M : Type 1} → statement M
+encode-agrees-spec =
+    tie.close
+    (tie.spec
+    array-borrow-prefix-bits
+    slice-aggregate-read-bits
+    read-bits-requires
+    array-share-prefix-bits
+    slice-aggregate-encodes
+    array-borrow-prefix-made
+    slice-aggregate-encodes-2
+    encodes-requires
+    returns)

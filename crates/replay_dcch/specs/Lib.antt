@@ -1,0 +1,2 @@
+-- Lines of DCCH blocks.
+pub mod Blocks
