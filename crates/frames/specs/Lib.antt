@@ -1,0 +1,2 @@
+-- The turns of the program.
+pub mod Turns

@@ -1,0 +1,103 @@
+-- What the functions do, in these terms.
+use mathlib.Core.Path.{_≡_}
+use mathlib.Core.Logic.{_≢_}
+use mathlib.Core.Bool.{cond}
+use mathlib.Core.List.{List, [], _∷_, _++_, List·Memᴰ}
+use Prim.Native.Nat.{ℕ, _+_, _-_, _*_, _≤_}
+use lib.Dec.{eqb}
+use lib.ListN.{length, getD, take, drop}
+use Rattle.lines.specs.Printing.{codeText}
+use Rattle.lines.specs.Writing.{Put}
+use Rattle.session.specs.declared.Fed.{Fed}
+use Rattle.session.specs.declared.Session.{Session}
+use Rattle.session.specs.declared.Tally.{Tally}
+use Rattle.session.specs.Output.{closing, fresh}
+use Rattle.session.specs.Scanning.{Scan, ended, endSaid, seen, heard, closed, closeSaid}
+
+-- ---- the order of the `C` lines
+-- no code twice
+abbrev pub Once : List ℕ → Type 0
+Once [] = Unit {0}
+Once (d ∷ order) = (List·Memᴰ d order → ⊥) × Once order
+
+-- each code with accepted words once, and no other
+pub record EachOnce (counts order : List ℕ) : Type 0 where
+  pub once : Once order
+  pub only : (d : ℕ) → List·Memᴰ d order → getD counts d 0 ≢ 0
+  pub all : (d : ℕ) → getD counts d 0 ≢ 0 → List·Memᴰ d order
+
+-- the line of a code, where it has words
+unfoldable pub codeLine : ℕ → ℕ → List ℕ
+codeLine d words = cond (eqb words 0) [] (codeText d words)
+
+-- ---- a session as a scan: `line` holds the line so far, `counts` the words of each code
+unfoldable pub viewOf : Session → List ℕ → List ℕ → Scan
+viewOf s line counts =
+    record { left = s .left; state = record { receiver = s .receiver; tally = s .tally; counts = counts }; part = take (s .len) line }
+
+unfoldable pub begun : Session
+begun = record { left = 1000000; len = 0; receiver = fresh .receiver; tally = fresh .tally }
+
+-- the scan of no input
+unfoldable pub atStart : Scan
+atStart = record { left = 1000000; state = fresh; part = [] }
+
+-- ---- totals that fit their numbers: no more words than lines read
+pub record Modest (t : Tally) (left : ℕ) (counts : List ℕ) : Type 0 where
+  pub words : t .words + left ≤ 1000000
+  pub corrected : t .corrected ≤ 65535 * t .words
+  pub coded : t .coded ≤ 260 * t .words
+  pub codes : length counts ≡ 256
+  pub each : (d : ℕ) → getD counts d 0 ≤ t .words
+
+-- what one answer adds
+pub record Light (t : Tally) : Type 0 where
+  pub one : t .words ≤ 1
+  pub corrected : t .corrected ≤ 65535 * t .words
+  pub coded : t .coded ≤ 260 * t .words
+
+pub record Sound (s : Session) (line counts : List ℕ) : Type 0 where
+  pub modest : Modest (s .tally) (s .left) counts
+  pub long : length line ≡ 137
+  pub within : s .len ≤ 137
+
+-- ---- the steps. After each the session is that of the scan, and what the scan has written stands in `out` from `at`.
+-- bytes of a line are kept
+pub record Kept (part line : List ℕ) (len : ℕ) (line′ : List ℕ) (r : ℕ) : Type 0 where
+  pub kept : take r line′ ≡ take 137 (take len line ++ part)
+  pub long : length line′ ≡ 137
+  pub within : r ≤ 137
+
+-- the line so far is at its end
+pub record LineEnded (s : Session) (line counts counts′ out out′ : List ℕ) (at : ℕ) (r : Fed) : Type 0 where
+  pub view : viewOf (r .session) line counts′ ≡ ended (viewOf s line counts)
+  pub text : Put out at (endSaid (viewOf s line counts)) out′ (r .at)
+  pub room : r .at ≤ at + 25
+  pub sound : Sound (r .session) line counts′
+
+-- the bytes from `from` up to `end`, and the LF there
+abbrev pub partOf : List ℕ → ℕ → ℕ → List ℕ
+partOf piece from end = take (end + 1 - from) (drop from piece)
+
+pub record PartFed (s : Session) (piece : List ℕ) (from end : ℕ) (line line′ counts counts′ out out′ : List ℕ) (at : ℕ) (r : Fed) : Type 0 where
+  pub view : viewOf (r .session) line′ counts′ ≡ seen (viewOf s line counts) (partOf piece from end)
+  pub text : Put out at (heard (viewOf s line counts) (partOf piece from end)) out′ (r .at)
+  pub room : r .at ≤ at + 25
+  pub sound : Sound (r .session) line′ counts′
+
+-- a piece of the input
+pub record PieceFed (s : Session) (piece line line′ counts counts′ out out′ : List ℕ) (r : Fed) : Type 0 where
+  pub view : viewOf (r .session) line′ counts′ ≡ seen (viewOf s line counts) piece
+  pub text : Put out 0 (heard (viewOf s line counts) piece) out′ (r .at)
+  pub room : r .at ≤ 25 * length piece
+  pub sound : Sound (r .session) line′ counts′
+
+-- the end of the input
+pub record Closed (s : Session) (line counts counts′ out out′ : List ℕ) (r : Fed) : Type 0 where
+  pub state : record { receiver = r .session .receiver; tally = r .session .tally; counts = counts′ } ≡ closed (viewOf s line counts)
+  pub text : Put out 0 (closeSaid (viewOf s line counts)) out′ (r .at)
+  pub room : r .at ≤ 25
+  pub modest : Modest (r .session .tally) (r .session .left) counts′
+
+unfoldable pub endText : Scan → List ℕ
+endText c = closeSaid c ++ closing (closed c .tally) (closed c .counts)

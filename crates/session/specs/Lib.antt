@@ -1,0 +1,4 @@
+-- A run of the program `frames`: the definitions.
+pub mod Output
+pub mod Scanning
+pub mod Contracts
