@@ -1,6 +1,8 @@
 //! The Rust of 136-bts, unchanged, beside the port of it that is linked as an archive, and what
 //! the tests, the benchmark and the recorder share.
+pub mod air;
 pub mod blocks;
+pub mod calls;
 pub mod channel;
 pub mod codec;
 pub mod lent;
@@ -9,7 +11,9 @@ pub mod osmo;
 pub mod phy;
 pub mod port;
 pub mod port_facch;
+pub mod port_sacch;
 pub mod port_soft;
+pub mod port_speech;
 pub mod prng;
 pub mod reference;
 pub mod reference_facch;

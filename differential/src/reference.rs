@@ -77,25 +77,46 @@ pub fn weight(word: &[bool], coded: &[bool]) -> u32 {
         .unwrap()
 }
 
-/// Carries the words that lead into each state through the pairs of a block.
-fn carry(mut into: [Nearest; STATES], coded: &[bool]) -> [Nearest; STATES] {
-    for pair in coded.chunks_exact(2) {
-        let mut after = [Nearest::NONE; STATES];
-        for (words, steps) in into.iter().zip(STEPS.iter()) {
-            for (next, output) in steps {
-                after[*next] = after[*next].or(words.after(differing(output, pair)));
-            }
+/// Carries the words that lead into each state through a step; a step that sent nothing costs
+/// nothing.
+fn step(into: [Nearest; STATES], pair: Option<&[bool]>) -> [Nearest; STATES] {
+    let mut after = [Nearest::NONE; STATES];
+    for (words, steps) in into.iter().zip(STEPS.iter()) {
+        for (next, output) in steps {
+            let cost = pair.map_or(0, |pair| differing(output, pair));
+            after[*next] = after[*next].or(words.after(cost));
         }
-        into = after;
     }
+    after
+}
+
+/// Through the pairs of a block.
+fn carry(into: [Nearest; STATES], coded: &[bool]) -> [Nearest; STATES] {
+    coded
+        .chunks_exact(2)
+        .fold(into, |into, pair| step(into, Some(pair)))
+}
+
+/// The empty word, in state 0.
+fn empty() -> [Nearest; STATES] {
+    let mut into = [Nearest::NONE; STATES];
+    into[0] = Nearest::word(0);
     into
 }
 
 /// Over the words from state 0 to state 0.
 pub fn ended(coded: &[bool]) -> Nearest {
-    let mut into = [Nearest::NONE; STATES];
-    into[0] = Nearest::word(0);
-    carry(into, coded)[0]
+    carry(empty(), coded)[0]
+}
+
+/// The same where the last step of every `period` sends nothing. ACELP's code is DCCH's with the
+/// register reversed, so their words have the same coded bits.
+pub fn punctured(sent: &[bool], period: usize) -> Nearest {
+    let mut into = empty();
+    for part in sent.chunks(2 * (period - 1)) {
+        into = step(carry(into, part), None);
+    }
+    into[0]
 }
 
 /// Over all words of five inputs or more, each by its `weight`. After five inputs the memory holds

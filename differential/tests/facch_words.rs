@@ -1,9 +1,9 @@
 //! FACCH words coded, and put into slots and taken out, by the port and by the Rust.
 use differential::blocks::bytes;
-use differential::lent::Lent;
+use differential::calls::{refuses, writes};
 use differential::phy::facch::{self, CODED_BITS, MESSAGE_BITS, WordHalf};
 use differential::port_facch::observe;
-use differential::port_facch::{DONE, SYMBOL, Written, deinterleave, encode, interleave, length};
+use differential::port_facch::{SYMBOL, Written, deinterleave, encode, interleave, length};
 use differential::prng::Prng;
 use differential::tally::Tally;
 
@@ -12,23 +12,6 @@ const MESSAGES: u64 = 1 << MESSAGE_BITS;
 /// The message's bits, the first highest.
 fn bits(message: u64) -> [bool; MESSAGE_BITS] {
     std::array::from_fn(|place| message >> (MESSAGE_BITS - 1 - place) & 1 != 0)
-}
-
-/// Makes a call that must fill the buffer with these bytes.
-#[track_caller]
-fn writes(wanted: &[u8], call: impl FnOnce(&mut [u8]) -> Written) {
-    let mut lent = Lent::new(wanted.len());
-    assert_eq!(call(lent.lend()), DONE);
-    assert_eq!(lent.written(), wanted);
-    assert!(lent.margins_whole(), "written beside");
-}
-
-/// Makes a call that must be refused and leave the buffer alone.
-#[track_caller]
-fn refuses(room: usize, wanted: Written, call: impl FnOnce(&mut [u8]) -> Written) {
-    let mut lent = Lent::new(room);
-    assert_eq!(call(lent.lend()), wanted);
-    assert!(lent.untouched(), "refused but written");
 }
 
 fn compare(continuation: bool, message: u64, dvcc: u8) {

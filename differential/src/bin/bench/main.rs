@@ -4,13 +4,15 @@
 //!
 //! `bench list` prints the names, `bench NAME N` makes N calls of one, for an instruction counter.
 mod facch;
+mod sacch;
+mod speech;
 
 use differential::blocks::{Ends, Kind, bytes, code, flip};
 use differential::channel::Channel;
 #[cfg(osmocore)]
 use differential::osmo::Osmo;
 use differential::phy::dcch::{BlockFormat, CrcMode, probe};
-use differential::phy::{acelp_cc1, dcch, sacch};
+use differential::phy::{self, acelp_cc1, dcch};
 use differential::port;
 use differential::prng::Prng;
 use differential::reliabilities::Sizes;
@@ -119,6 +121,8 @@ fn cases() -> Vec<Case> {
         cases.push(decode_soft(&mut p, what, sizes, kind));
     }
     cases.extend(facch::cases(&mut p));
+    cases.extend(sacch::cases(&mut p));
+    cases.extend(speech::cases(&mut p));
     cases
 }
 
@@ -252,7 +256,7 @@ fn free_search(damage: &str, blocks: &[Vec<bool>]) -> Case {
         .map(|block| block[..].try_into().unwrap())
         .collect();
     let rust = Contender::new("rust+checksum", move |i| {
-        let _ = black_box(sacch::decode(black_box(&bits[i % INPUTS]), DVCC));
+        let _ = black_box(phy::sacch::decode(black_box(&bits[i % INPUTS]), DVCC));
     });
     Case {
         name: format!("free-66-{damage}"),
