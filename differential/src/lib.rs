@@ -6,6 +6,7 @@ pub mod calls;
 pub mod channel;
 pub mod codec;
 pub mod lent;
+pub mod lines;
 #[cfg(osmocore)]
 pub mod osmo;
 pub mod phy;
@@ -19,6 +20,7 @@ pub mod reference;
 pub mod reference_facch;
 pub mod reference_soft;
 pub mod reliabilities;
+pub mod survey;
 pub mod tally;
 pub mod timing;
 pub mod verdict;

@@ -7,6 +7,5 @@ pub mod Inputs
 pub mod Framing
 pub mod Restoring
 pub mod Settling
-pub mod TableRows
 pub mod OwnInputs
 pub mod RoundTrip

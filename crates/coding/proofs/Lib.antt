@@ -7,4 +7,3 @@ pub mod Unique
 pub mod Division
 pub mod Shifting
 pub mod Answers
-pub mod TableM

@@ -2,4 +2,3 @@
 pub mod Wiring
 pub mod Interleaved
 pub mod Passing
-pub mod TableRows

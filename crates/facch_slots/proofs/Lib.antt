@@ -5,4 +5,3 @@ pub mod Passing
 pub mod Spreading
 pub mod Answering
 pub mod Interleaved
-pub mod TableRows

@@ -1,5 +1,6 @@
 // Reads lines of channel words from standard input, and writes an answer to each and the totals (document 01, 'The line program `frames`').
 // What it writes for an input is `output` of session/specs/Output.antt.
+use libc::STDERR_FILENO;
 use libc::STDIN_FILENO;
 use libc::STDOUT_FILENO;
 use session::Session;
@@ -86,16 +87,28 @@ fn listen(piece: &mut [u8], line: &mut [u8], counts: &mut [u32], out: &mut [u8])
     }
 }
 
+// What was written stays, and the missing totals show that it is not all.
+fn tell_failure(failed: bool) {
+    if failed {
+        io::write_all(
+            STDERR_FILENO,
+            b"frames: a read or a write failed; no totals are written\n",
+        );
+    }
+}
+
 fn run(piece: &mut [u8], line: &mut [u8], counts: &mut [u32], out: &mut [u8])
     requires { ⌜ (length (now line) ≡ 137) × (now counts ≡ replicate 256 0) × (16384 ≡ length (now piece)) × (409600 ≡ length (now out)) ⌝ }
 {
     let done = listen(piece, line, counts, out);
+    tell_failure(done.failed);
     if done.failed {
         return;
     }
     let session = done.session;
     let end = finish(session, line, counts, out);
-    io::write_all(STDOUT_FILENO, &out[..end]);
+    let wrote = io::write_all(STDOUT_FILENO, &out[..end]);
+    tell_failure(!wrote);
 }
 
 fn main() {

@@ -7,5 +7,4 @@ pub mod Answering
 pub mod Settling
 pub mod Places
 pub mod RoundTrip
-pub mod TableRows
 pub mod OneAnswer

@@ -3,12 +3,14 @@ use mathlib.Core.Path.{sym}
 use Prim.Native.Nat.{_-_}
 use lib.Seq.{length-take-le}
 use borrow.Author.Needs.{needs}
-use borrow.Author.Needs.{needs}
 use Rattle.frames.proofs.run.Statement.{statement}
 use Rattle.frames.proofs.run.Tie as tie
 
 listen-requires : tie.Need-listen-requires
 listen-requires c κs = search needs
+
+tell-failure-requires : tie.Need-tell-failure-requires
+tell-failure-requires c κs = search needs
 
 same-length : tie.Need-same-length
 same-length c = search needs
@@ -37,6 +39,9 @@ slice-aggregate-write-all c = sym (length-take-le _ _ (c .before .before .before
 write-all-requires : tie.Need-write-all-requires
 write-all-requires c κs = search needs
 
+tell-failure-requires-2 : tie.Need-tell-failure-requires-2
+tell-failure-requires-2 c κs = search needs
+
 same-length-5 : tie.Need-same-length-5
 same-length-5 c = search needs
 
@@ -57,6 +62,7 @@ run-spec =
     tie.close
     (tie.spec
     listen-requires
+    tell-failure-requires
     same-length
     same-length-2
     same-length-3
@@ -66,6 +72,7 @@ run-spec =
     slice-reshare-prefix-write-all
     slice-aggregate-write-all
     write-all-requires
+    tell-failure-requires-2
     same-length-5
     same-length-6
     same-length-7

@@ -1,0 +1,2 @@
+-- Document 01's Table M.
+pub mod TableM

@@ -1,0 +1,112 @@
+//! The program `frames` beside the same program over the Rust: on traffic of every kind, read in
+//! pieces of every size, and on inputs too long for any buffer.
+use differential::lines::{traffic, wrong_forms};
+use differential::prng::Prng;
+use differential::survey::write_answers;
+use differential::tally::{Tally, scaled};
+use std::io::{Read, Write};
+use std::process::{Child, Command, Stdio};
+use std::{env, thread};
+
+/// Starts the program that BTS136_FRAMES names, or the one that `rt check frames` built.
+fn start() -> Child {
+    let default = concat!(env!("CARGO_MANIFEST_DIR"), "/../target/bin/frames");
+    let program = env::var("BTS136_FRAMES").unwrap_or(default.into());
+    Command::new(&program)
+        .stdin(Stdio::piped())
+        .stdout(Stdio::piped())
+        .spawn()
+        .unwrap_or_else(|error| panic!("{program}: {error}; `rt check frames` builds it"))
+}
+
+/// What the program prints of an input that comes piece by piece.
+fn printed<'a>(pieces: impl Iterator<Item = &'a [u8]> + Send) -> Vec<u8> {
+    let mut child = start();
+    let mut stdin = child.stdin.take().unwrap();
+    let mut out = vec![];
+    thread::scope(|scope| {
+        scope.spawn(move || {
+            for piece in pieces {
+                // Past the last line that it reads the program may have ended.
+                if stdin.write_all(piece).is_err() {
+                    break;
+                }
+            }
+        });
+        child.stdout.take().unwrap().read_to_end(&mut out).unwrap();
+    });
+    assert!(child.wait().unwrap().success());
+    out
+}
+
+fn expected(input: &[u8]) -> Vec<u8> {
+    let mut out = vec![];
+    write_answers(input, &mut out).unwrap();
+    out
+}
+
+#[track_caller]
+fn compare(input: &[u8], piece: usize) {
+    let printed = printed(input.chunks(piece));
+    if printed != expected(input) {
+        let text = String::from_utf8_lossy(input);
+        panic!(
+            "pieces of {piece}: {text}\n{}",
+            String::from_utf8_lossy(&printed)
+        );
+    }
+}
+
+#[test]
+fn answers_traffic() {
+    let mut p = Prng(0xf7a);
+    let mut tally = Tally::new("frames, lines");
+    let wrong = wrong_forms();
+    let mut lines = 0;
+    for _ in 0..scaled(400) {
+        let input = traffic(&mut p, &wrong, 12);
+        lines += input.split(|byte| *byte == b'\n').count() as u64;
+        let piece = [1, 7, 136, 4096, 16384, 1 << 20][p.below(6)];
+        compare(&input, piece);
+    }
+    tally.part("traffic in pieces of 1 to a million bytes", lines);
+    for cut in 0..=300 {
+        compare(&vec![b'S'; cut], 1 << 20);
+        compare(&[&vec![b' '; cut][..], b"\nD"].concat(), 1 << 20);
+    }
+    tally.part("lines of every length to 300", 602);
+    tally.end();
+}
+
+/// A long input that is not kept, and what is written of it.
+fn repeated(line: &[u8], times: usize, last: &[u8]) -> Vec<u8> {
+    let block = line.repeat(1000);
+    let blocks = std::iter::repeat_n(&block[..], times / 1000);
+    printed(blocks.chain([&line.repeat(times % 1000)[..], last]))
+}
+
+#[track_caller]
+fn prints(printed: &[u8], line: &str, times: usize, end: &str) {
+    let wanted = line.repeat(times) + end;
+    assert!(printed == wanted.as_bytes(), "{} bytes", printed.len());
+}
+
+#[test]
+fn reads_a_million_lines() {
+    let mut tally = Tally::new("frames, long inputs");
+    let blank = repeated(b"\n", 999_999, b"S 00 000\nD\n");
+    prints(&blank, "P\n", 1, "T 0 0\n");
+    tally.part("999,999 blank lines and two more", 1_000_001);
+    let fields = repeated(b"S 00 fff\n", 1_000_000, b"D\nS 00 000\n");
+    let (first, rest) = fields.split_at(42);
+    assert!(first == "P\n".repeat(21).as_bytes() && !rest.contains(&b'D'));
+    tally.part("a million fields and two lines more", 1_000_002);
+    let word = format!("F 00 {} {}\n", "5".repeat(65), "0".repeat(65));
+    let words = repeated(word.as_bytes(), 1_000_000, b"");
+    prints(&words, "R 4\n", 1_000_000, "T 0 0\n");
+    tally.part("a million words that are not observed", 1_000_000);
+    let long = repeated(&[b'S'; 100], 1_000_000, b"");
+    prints(&long, "R 7\n", 1, "T 0 0\n");
+    tally.part("one line of 100,000,000 bytes", 1);
+    tally.end();
+}
