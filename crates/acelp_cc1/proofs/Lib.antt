@@ -8,4 +8,3 @@ pub mod Framing
 pub mod Restoring
 pub mod Settling
 pub mod OwnInputs
-pub mod RoundTrip

@@ -3,51 +3,19 @@ use mathlib.Core.Path.{_≡_, refl, sym, ap, subst, _∙_}
 use mathlib.Core.Bool.{Bool, true, false, cond}
 use mathlib.Core.List.{List}
 use Prim.Native.Nat.{ℕ, _<_}
-use native.Mathlib.Decide.{decLt, ℕ-discrete}
+use native.Mathlib.Decide.{decLt}
 use native.Mathlib.Omega.{arith}
 use lib.ListN.{length}
-use Rattle.bits.specs.Numbers.{packed}
 use Rattle.bits.specs.Bits.{allBinary}
-use Rattle.bits.specs.Refusals.{Answer, accepted, pending, rejected, refused, numberOf, firstOf, exactOf, binaryOf}
+use Rattle.bits.specs.Refusals.{Answer, refused, firstOf, exactOf, binaryOf}
 use Rattle.bits.specs.declared.Lent.{Lent}
 use Rattle.bits.specs.declared.Lent.the-variants.{Fine, Refused}
 use Rattle.bits.specs.declared.Refusal.the-variants as refusal
-use Rattle.bits.proofs.Packed.{packed-one}
 use Rattle.trellis.specs.Search.{Ambiguous}
 use Rattle.trellis.specs.Words.{OfLength}
-use Rattle.trellis.proofs.Searching.{alone-unique}
+use Rattle.nearest.proofs.OneOutcome.{is-ambiguous, one-nearest}
 use Rattle.facch.specs.Decoding.{Content, observedCount, weight, erasableOf, lentErased, lentDecode, sound, Finished, Settled, Answered, Decoding}
 use Rattle.facch.proofs.Received.{binary-erasable}
-
--- bits of one length are the same or not
-same-or-not : (u w : List Bool) → length u ≡ length w → Dec (u ≡ w)
-same-or-not u w l = elim (ℕ-discrete (packed u) (packed w)) [ yes e ↦ yes (packed-one u w l e) | no n ↦ no (λ e. n (ap packed e)) ]
-
--- an answer by its number, 0 where it is no refusal
-numbered : Answer Content → ℕ
-numbered (accepted x) = 0
-numbered pending = 0
-numbered (rejected why) = 0
-numbered (refused why) = numberOf why
-
-five-ambiguous : (answer : Answer Content) → numbered answer ≡ 5 → answer ≡ refused refusal.Ambiguous
-unfolding numbered
-five-ambiguous (refused refusal.Ambiguous) e = refl
-five-ambiguous (refused (refusal.Length expected actual)) e = let z : ⊥ = omega arith in absurd z
-five-ambiguous (refused refusal.Symbol) e = let z : ⊥ = omega arith in absurd z
-five-ambiguous (refused refusal.Crc) e = let z : ⊥ = omega arith in absurd z
-five-ambiguous (refused refusal.InsufficientObservations) e = let z : ⊥ = omega arith in absurd z
-five-ambiguous (refused refusal.Reserved) e = let z : ⊥ = omega arith in absurd z
-five-ambiguous (refused refusal.Line) e = let z : ⊥ = omega arith in absurd z
-five-ambiguous (refused refusal.State) e = let z : ⊥ = omega arith in absurd z
-five-ambiguous (accepted x) e = let z : ⊥ = omega arith in absurd z
-five-ambiguous pending e = let z : ⊥ = omega arith in absurd z
-five-ambiguous (rejected why) e = let z : ⊥ = omega arith in absurd z
-
-is-ambiguous : (answer : Answer Content) → Dec (answer ≡ refused refusal.Ambiguous)
-unfolding numbered
-is-ambiguous answer =
-    elim (ℕ-discrete (numbered answer) 5) [ yes e ↦ yes (five-ambiguous answer e) | no n ↦ no (λ e. n (ap numbered e)) ]
 
 one-finished : {w : List Bool} {corrected observed dvcc : ℕ} {a b : Answer Content} → Finished w corrected observed dvcc a → Finished w corrected observed dvcc b → a ≡ b
 one-finished {w} {corrected} {observed} {dvcc} {a} {b} f g = go (sound w dvcc) refl
@@ -59,8 +27,7 @@ one-finished {w} {corrected} {observed} {dvcc} {a} {b} f g = go (sound w dvcc) r
 module _ {received : List ℕ} {dvcc : ℕ} {a b : Answer Content} where
   one-settled : (Ambiguous (OfLength 65) (weight received) → ⊥) → Settled received dvcc a → Settled received dvcc b → a ≡ b
   one-settled none s t =
-      let same : s .word ≡ t .word =
-      alone-unique (s .word) (t .word) none (s .nearest) (t .nearest) (same-or-not (s .word) (t .word) (s .nearest .word ∙ sym (t .nearest .word))) in
+      let same : s .word ≡ t .word = one-nearest none (s .nearest) (t .nearest) (s .nearest .word ∙ sym (t .nearest .word)) in
       one-finished (s .finished) (subst (λ (w : List Bool). Finished w (weight received w) (observedCount received) dvcc b) (sym same) (t .finished))
 
   one-answered : Answered received dvcc a → Answered received dvcc b → a ≡ b

@@ -2,3 +2,4 @@
 pub mod AllWords
 pub mod Lightest
 pub mod Members
+pub mod OneOutcome

@@ -6,5 +6,3 @@ pub mod Statuses
 pub mod Answering
 pub mod Settling
 pub mod Places
-pub mod RoundTrip
-pub mod OneAnswer

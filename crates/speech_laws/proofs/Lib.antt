@@ -1,0 +1,5 @@
+-- The laws.
+pub mod VselpRoundTrip
+pub mod VselpOneAnswer
+pub mod AcelpRoundTrip
+pub mod AcelpOneAnswer
