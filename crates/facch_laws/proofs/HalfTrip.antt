@@ -16,7 +16,8 @@ use Rattle.tailbiting.proofs.Erasable.{erasable-all, erased-none}
 use Rattle.facch_slots.specs.declared.WordHalf.{WordHalf}
 use Rattle.facch_slots.specs.declared.WordHalf.the-variants.{Start, End}
 use Rattle.bits.specs.declared.Wrote.{Wrote}
-use Rattle.facch_slots.specs.Wire.{interleaved, observed, lentTwo, Interleaving, Observing}
+use Rattle.slots.specs.Calls.{lentTwo}
+use Rattle.facch_slots.specs.Wire.{interleaved, observed, Interleaving, Observing}
 use Rattle.facch_word.specs.Words.{wordOf, tailBiting, Encoding}
 use Rattle.facch.specs.Decoding.{Content, observedCount, weight, lentErased, contentOf, Decoding}
 use Rattle.facch_slots.proofs.Answering.{fine-one}

@@ -15,13 +15,16 @@ use Rattle.bits.specs.declared.Lent.the-variants.{Fine}
 use Rattle.bits.specs.declared.Wrote.{Wrote}
 use Rattle.facch_slots.specs.declared.WordHalf.{WordHalf}
 use Rattle.facch_slots.specs.declared.WordHalf.the-variants.{Start, End}
-use Rattle.facch_slots.specs.Wire.{table, placeOf, placeAt, wireOf, byRow, interleaved, deinterleaved, observed, lentTwo, Interleaving, Deinterleaving}
+use Rattle.slots.specs.Slots.{byRow}
+use Rattle.slots.specs.Calls.{lentTwo}
+use Rattle.slots.proofs.RoundTrip.{between-two}
+use Rattle.slots.proofs.Answering.{two-fine, two-bits, fine-two}
+use Rattle.facch_slots.specs.Wire.{table, placeOf, placeAt, wireOf, interleaved, deinterleaved, observed, Interleaving, Deinterleaving}
 use Rattle.bits.specs.Calls.{wroteAnswer}
 use Rattle.facch.specs.Decoding.{seen, observedCount}
 use Rattle.facch_slots.proofs.Table.{wire-below, place-of-wire}
 use Rattle.facch_slots.proofs.Interleaved.{interleaved-length, deinterleaved-length, interleaved-at, deinterleaved-at, binary-interleaved}
 use Rattle.facch.proofs.Received.{not-seen, is-one}
-use Rattle.facch_slots.proofs.Answering.{two-fine, two-bits, fine-two}
 
 module _ {A : Type 0} (d : A) where
   -- what a slot carries of a word: its even rows of the one before it, its odd rows of its own
@@ -37,16 +40,8 @@ module _ {A : Type 0} (d : A) where
 
   -- ---- two slots
   pub round-trip : (previous word next : List A) → length word ≡ 260 → deinterleaved d (interleaved d previous word) (interleaved d word next) ≡ word
-  unfolding deinterleaved
-  round-trip previous word next size =
-      sym (is-listed 260 _ d word size (λ place h. sym (go place h (eqb (wireOf place / 10 % 2) 0) refl)))
-    where
-      go : (place : ℕ) → place < 260 → (b : Bool) → eqb (wireOf place / 10 % 2) 0 ≡ b
-          → getD (byRow (wireOf place) (interleaved d word next) (interleaved d previous word)) (wireOf place) d ≡ getD word place d
-      go place h true e =
-          ap (λ (b : Bool). getD (cond b (interleaved d word next) (interleaved d previous word)) (wireOf place) d) e ∙ even-row word place h next e
-      go place h false e =
-          ap (λ (b : Bool). getD (cond b (interleaved d word next) (interleaved d previous word)) (wireOf place) d) e ∙ odd-row word place h previous e
+  unfolding interleaved deinterleaved
+  round-trip previous word next size = between-two d placeAt wireOf wire-below place-of-wire previous word next size
 
 -- the same of the calls
 pub slotted : (previous current : List ℕ) (r : Wrote) {slot₀ slot : List ℕ} → lentTwo previous current (length slot₀) ≡ Fine → Interleaving previous current slot₀ slot r
@@ -69,8 +64,8 @@ calls-round-trip previous word next r r′ r″ {slot₀} {slot} {slot₀′} {s
 -- ---- one slot
 -- the first of a word's slots carries the places in its odd rows, the second those in its even rows
 abbrev pub carries : WordHalf → ℕ → Bool
-carries Start place = byRow (wireOf place) false true
-carries End place = byRow (wireOf place) true false
+carries Start place = byRow false true (wireOf place / 10)
+carries End place = byRow true false (wireOf place / 10)
 
 -- the slot that carries a half of a word, beside a half of another word
 abbrev pub slotOf : WordHalf → List ℕ → List ℕ → List ℕ

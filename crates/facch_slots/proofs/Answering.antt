@@ -8,8 +8,8 @@ use Rattle.bits.specs.Bits.{allBinary}
 use Rattle.bits.specs.Refusals.{firstOf, exactOf, binaryOf}
 use Rattle.bits.specs.declared.Lent.{Lent}
 use Rattle.bits.specs.declared.Lent.the-variants.{Fine}
-use Rattle.bits.proofs.Refusing.{fine-first, fine-exact, fine-binary, exact-fine, binary-fine}
-use Rattle.facch_slots.specs.Wire.{lentOne, lentTwo}
+use Rattle.bits.proofs.Refusing.{fine-first, fine-exact, exact-fine, binary-fine}
+use Rattle.facch_slots.specs.Wire.{lentOne}
 
 -- ---- what Fine says of the lengths and the bits
 pub one-fine : (a : List ℕ) (room : ℕ) {l : Lent} → l ≡ lentOne a room → l ≡ Fine → (length a ≡ 260) × (room ≡ 260)
@@ -18,28 +18,6 @@ one-fine a room told fine =
     let q = fine-first (exactOf 260 room) _ (p .1) in
     (sym (fine-exact 260 (length a) (p .0)), sym (fine-exact 260 room (q .0)))
 
-two-tests : (a b : List ℕ) (room : ℕ) → lentTwo a b room ≡ Fine
-    → (exactOf 260 (length a) ≡ Fine) × (exactOf 260 (length b) ≡ Fine) × (exactOf 260 room ≡ Fine) × (binaryOf a ≡ Fine) × (binaryOf b ≡ Fine)
-two-tests a b room fine =
-    let p = fine-first (exactOf 260 (length a)) _ fine in
-    let q = fine-first (exactOf 260 (length b)) _ (p .1) in
-    let r = fine-first (exactOf 260 room) _ (q .1) in
-    let s = fine-first (binaryOf a) (binaryOf b) (r .1) in
-    (p .0, q .0, r .0, s .0, s .1)
-
-pub two-fine : (a b : List ℕ) (room : ℕ) {l : Lent} → l ≡ lentTwo a b room → l ≡ Fine → (length a ≡ 260) × (length b ≡ 260) × (room ≡ 260)
-two-fine a b room told fine =
-    let t = two-tests a b room (sym told ∙ fine) in
-    (sym (fine-exact 260 (length a) (t .0)), sym (fine-exact 260 (length b) (t .1)), sym (fine-exact 260 room (t .2)))
-
-pub two-bits : (a b : List ℕ) (room : ℕ) → lentTwo a b room ≡ Fine → (allBinary a ≡ true) × (allBinary b ≡ true)
-two-bits a b room fine = let t = two-tests a b room fine in (fine-binary a (t .3), fine-binary b (t .4))
-
 -- ---- and what gives Fine
-pub fine-two : (a b : List ℕ) (room : ℕ) → length a ≡ 260 → length b ≡ 260 → room ≡ 260 → allBinary a ≡ true → allBinary b ≡ true → lentTwo a b room ≡ Fine
-fine-two a b room la lb lr ba bb =
-    ap₂ firstOf (exact-fine 260 (length a) la)
-    (ap₂ firstOf (exact-fine 260 (length b) lb) (ap₂ firstOf (exact-fine 260 room lr) (ap₂ firstOf (binary-fine a ba) (binary-fine b bb))))
-
 pub fine-one : (a : List ℕ) (room : ℕ) → length a ≡ 260 → room ≡ 260 → allBinary a ≡ true → lentOne a room ≡ Fine
 fine-one a room la lr ba = ap₂ firstOf (exact-fine 260 (length a) la) (ap₂ firstOf (exact-fine 260 room lr) (binary-fine a ba))

@@ -8,30 +8,31 @@ use lib.ListN.{length, getD, List·getD-map}
 use Rattle.bits.specs.Bits.{bit, byte, bits, allBinary}
 use Rattle.bits.proofs.Binary.{binary-bytes, bytes-bits}
 use Rattle.bits.proofs.Listed.{length-listed, getD-listed, map-listed, listed-same}
-use Rattle.facch_slots.specs.Wire.{placeAt, wireOf, byRow, interleaved, deinterleaved}
+use Rattle.slots.specs.Slots.{carried, collected, byRow}
+use Rattle.facch_slots.specs.Wire.{placeAt, wireOf, interleaved, deinterleaved}
 
 module _ {A : Type 0} (d : A) where
   pub interleaved-length : (previous current : List A) → length (interleaved d previous current) ≡ 260
-  unfolding interleaved
+  unfolding interleaved carried
   interleaved-length previous current = length-listed 260 _
 
   pub deinterleaved-length : (first second : List A) → length (deinterleaved d first second) ≡ 260
-  unfolding deinterleaved
+  unfolding deinterleaved collected
   deinterleaved-length first second = length-listed 260 _
 
   pub interleaved-at : (previous current : List A) (wire : ℕ) → wire < 260
-      → getD (interleaved d previous current) wire d ≡ getD (byRow wire previous current) (placeAt wire) d
-  unfolding interleaved
+      → getD (interleaved d previous current) wire d ≡ getD (byRow previous current (wire / 10)) (placeAt wire) d
+  unfolding interleaved carried
   interleaved-at previous current wire h = getD-listed 260 _ d wire h
 
   pub deinterleaved-at : (first second : List A) (place : ℕ) → place < 260
-      → getD (deinterleaved d first second) place d ≡ getD (byRow (wireOf place) second first) (wireOf place) d
-  unfolding deinterleaved
+      → getD (deinterleaved d first second) place d ≡ getD (byRow second first (wireOf place / 10)) (wireOf place) d
+  unfolding deinterleaved collected
   deinterleaved-at first second place h = getD-listed 260 _ d place h
 
   -- ---- a function of the elements
   module _ {B : Type 0} (g : A → B) where
-    map-by-row : (wire : ℕ) (even odd : List A) (k : ℕ) → g (getD (byRow wire even odd) k d) ≡ getD (byRow wire (map g even) (map g odd)) k (g d)
+    map-by-row : (wire : ℕ) (even odd : List A) (k : ℕ) → g (getD (byRow even odd (wire / 10)) k d) ≡ getD (byRow (map g even) (map g odd) (wire / 10)) k (g d)
     map-by-row wire even odd k = go (eqb (wire / 10 % 2) 0)
       where
         go : (b : Bool) → g (getD (cond b even odd) k d) ≡ getD (cond b (map g even) (map g odd)) k (g d)
@@ -39,12 +40,12 @@ module _ {A : Type 0} (d : A) where
         go false = sym (List·getD-map g odd k d)
 
     pub map-interleaved : (previous current : List A) → map g (interleaved d previous current) ≡ interleaved (g d) (map g previous) (map g current)
-    unfolding interleaved
+    unfolding interleaved carried
     map-interleaved previous current =
         map-listed g 260 _ ∙ listed-same 260 _ _ (λ wire. map-by-row wire previous current (placeAt wire))
 
     pub map-deinterleaved : (first second : List A) → map g (deinterleaved d first second) ≡ deinterleaved (g d) (map g first) (map g second)
-    unfolding deinterleaved
+    unfolding deinterleaved collected
     map-deinterleaved first second =
         map-listed g 260 _ ∙ listed-same 260 _ _ (λ place. map-by-row (wireOf place) second first (wireOf place))
 

@@ -11,6 +11,7 @@ use lib.ListN.{length, getD, set, take, drop, replicate, length-set, getD-replic
 use lib.Seq.{getD-set-same, getD-set-other}
 use borrow.Author.Tests.{eqb-true, eqb-false}
 use Rattle.bits.proofs.Listed.{is-listed}
+use Rattle.slots.specs.Slots.{collected}
 use Rattle.facch_slots.specs.declared.WordHalf.{WordHalf}
 use Rattle.facch_slots.specs.declared.WordHalf.the-variants.{Start, End}
 use Rattle.facch_slots.specs.Wire.{placeOf, placeAt, wireOf, deinterleaved, observed, parityOf, Spread}
@@ -103,7 +104,7 @@ row-place {row} {column} h b e =
 halves : (first second coded : List ℕ) → length coded ≡ 260
     → ((wire : ℕ) → wire < 260 → wire / 10 % 2 ≡ 0 → getD coded (placeAt wire) 0 ≡ getD second wire 0)
     → ((wire : ℕ) → wire < 260 → wire / 10 % 2 ≡ 1 → getD coded (placeAt wire) 0 ≡ getD first wire 0) → coded ≡ deinterleaved 0 first second
-unfolding deinterleaved
+unfolding deinterleaved collected
 halves first second coded size even odd =
     is-listed 260 _ 0 coded size
     (λ p b. ap (λ (q : ℕ). getD coded q 0) (sym (place-of-wire p b)) ∙ go (wireOf p) (wire-below p b) (eqb (wireOf p / 10 % 2) 0) refl)

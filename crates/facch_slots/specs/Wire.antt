@@ -1,9 +1,7 @@
 -- The slot order (IS-54-B 2.7.3.1.1.2): a slot carries 26 rows of ten bits; its even rows finish the previous word, its odd rows start the current one.
 use mathlib.Core.Path.{_≡_}
-use mathlib.Core.Bool.{cond}
 use mathlib.Core.List.{List, [], _∷_}
 use Prim.Native.Nat.{ℕ, _/_, _%_, _<_}
-use lib.Dec.{eqb}
 use lib.ListN.{length, getD, replicate}
 use Rattle.bits.specs.Places.{listed, placeIn}
 use Rattle.bits.specs.Refusals.{firstOf, exactOf, binaryOf}
@@ -12,6 +10,8 @@ use Rattle.facch_slots.specs.declared.WordHalf.{WordHalf}
 use Rattle.facch_slots.specs.declared.WordHalf.the-variants.{Start, End}
 use Rattle.bits.specs.declared.Wrote.{Wrote}
 use Rattle.bits.specs.Calls.{Written}
+use Rattle.slots.specs.Slots.{carried, collected, byRow}
+use Rattle.slots.specs.Calls.{lentTwo}
 
 -- IS-54-B Table 2.7.3.1.1.2-1, as the original's rule gives it, row by row: the place in the word of the coded bit that each column carries
 unfoldable pub table : List (List ℕ)
@@ -55,17 +55,13 @@ placeAt wire = placeOf (wire / 10) (wire % 10)
 unfoldable pub wireOf : ℕ → ℕ
 wireOf place = placeIn (listed 260 placeAt) place
 
--- what belongs to the row of a slot's bit: one thing for even rows, another for odd rows
-abbrev pub byRow : {A : Type 0} → ℕ → A → A → A
-byRow wire even odd = cond (eqb (wire / 10 % 2) 0) even odd
-
 -- the slot between two words; d stands for an element that a list lacks
 unfoldable pub interleaved : {A : Type 0} → A → List A → List A → List A
-interleaved d previous current = listed 260 (λ (wire : ℕ). getD (byRow wire previous current) (placeAt wire) d)
+interleaved d previous current = carried d placeAt (byRow previous current)
 
 -- the word that starts in one slot and is finished in the next
 unfoldable pub deinterleaved : {A : Type 0} → A → List A → List A → List A
-deinterleaved d first second = listed 260 (λ (place : ℕ). getD (byRow (wireOf place) second first) (wireOf place) d)
+deinterleaved d first second = collected d wireOf (byRow second first)
 
 -- the half of a word that one slot carries; 2 stands at the places of the other half
 abbrev pub observed : WordHalf → List ℕ → List ℕ
@@ -84,11 +80,6 @@ pub record Spread (Of : ℕ → Type 0) (slot coded₀ coded : List ℕ) : Type 
   pub kept : (wire : ℕ) → wire < 260 → (Of wire → ⊥) → getD coded (placeAt wire) 0 ≡ getD coded₀ (placeAt wire) 0
 
 -- ---- the calls
--- two slices and room for the third: each length, then the symbols
-abbrev pub lentTwo : List ℕ → List ℕ → ℕ → Lent
-lentTwo a b room =
-    firstOf (exactOf 260 (length a)) (firstOf (exactOf 260 (length b)) (firstOf (exactOf 260 room) (firstOf (binaryOf a) (binaryOf b))))
-
 -- a slice and room for the other
 abbrev pub lentOne : List ℕ → ℕ → Lent
 lentOne a room = firstOf (exactOf 260 (length a)) (firstOf (exactOf 260 room) (binaryOf a))

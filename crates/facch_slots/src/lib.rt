@@ -5,10 +5,12 @@ use bits::Wrote;
 use bits::exact;
 use bits::first;
 use bits::only_bits;
+use slots::lent_two;
 ghost use mathlib.Core.Path.{_≡_};
 ghost use Prim.Native.Nat.{_/_, _%_, _<_};
 ghost use lib.ListN.{getD, length};
-ghost use Rattle.facch_slots.specs.Wire.{Deinterleaving, Interleaving, Observing, Spread, byRow, deinterleaved, interleaved, lentOne, lentTwo, observed, parityOf, placeOf};
+ghost use Rattle.slots.specs.Slots.{byRow};
+ghost use Rattle.facch_slots.specs.Wire.{Deinterleaving, Interleaving, Observing, Spread, deinterleaved, interleaved, lentOne, observed, parityOf, placeOf};
 
 // The half of a word that a slot carries: its odd rows start a word, its even rows end one.
 pub enum WordHalf {
@@ -72,7 +74,7 @@ fn column_three(row: usize) -> usize
 // The byte at a place of the slice that an even row takes, or an odd row.
 fn by_row(wire: usize, even: &[u8], odd: &[u8], at: usize) -> u8
     requires { ⌜ (at < length (now even)) × (at < length (now odd)) ⌝ }
-    ensures { λ r. ⌜ r ≡ getD (byRow wire (now (even .entry)) (now (odd .entry))) at 0 ⌝ }
+    ensures { λ r. ⌜ r ≡ getD (byRow (now (even .entry)) (now (odd .entry)) (wire / 10)) at 0 ⌝ }
 {
     if wire / 10 % 2 == 0 {
         return even[at];
@@ -146,14 +148,6 @@ fn lent_one(a: &[u8], room: usize) -> Lent
 {
     let length = exact(260, a.len());
     first(length, first(exact(260, room), only_bits(a)))
-}
-
-fn lent_two(a: &[u8], b: &[u8], room: usize) -> Lent
-    ensures { λ r. ⌜ r ≡ lentTwo (now (a .entry)) (now (b .entry)) room ⌝ }
-{
-    let symbols = first(only_bits(a), only_bits(b));
-    let later = first(exact(260, b.len()), first(exact(260, room), symbols));
-    first(exact(260, a.len()), later)
 }
 
 // Writes the slot that finishes the previous word and starts the current one.

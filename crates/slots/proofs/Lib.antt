@@ -1,2 +1,3 @@
 -- The laws of slots.
 pub mod RoundTrip
+pub mod Answering

@@ -1,11 +1,13 @@
 -- A frame that slots carry is collected again. Assumes nothing.
-use mathlib.Core.Path.{_≡_, sym, ap, _∙_}
+use mathlib.Core.Path.{_≡_, refl, sym, ap, _∙_}
+use mathlib.Core.Bool.{Bool, true, false, cond}
 use mathlib.Core.List.{List}
-use Prim.Native.Nat.{ℕ, _/_, _<_}
+use Prim.Native.Nat.{ℕ, _/_, _%_, _<_}
 use native.Mathlib.Omega.{arith}
+use lib.Dec.{eqb}
 use lib.ListN.{length, getD}
 use Rattle.bits.proofs.Listed.{is-listed, getD-listed}
-use Rattle.slots.specs.Slots.{carried, collected}
+use Rattle.slots.specs.Slots.{carried, collected, byRow}
 
 -- wire p is the bit that carries the place p
 module _ {A : Type 0} (d : A) (place wire : ℕ → ℕ) (below : (p : ℕ) → p < 260 → wire p < 260) (back : (p : ℕ) → p < 260 → place (wire p) ≡ p) where
@@ -20,3 +22,17 @@ module _ {A : Type 0} (d : A) (place wire : ℕ → ℕ) (below : (p : ℕ) → 
           ap (λ (l : List A). getD l w d) (carries (w / 10) (omega arith))
           ∙ getD-listed 260 (λ (v : ℕ). getD (frames (w / 10) (v / 10)) (place v) d) d w h
           ∙ ap (λ (l : List A). getD l (place w) d) (same (w / 10) (omega arith))
+
+  -- two slots: the frame's even rows are in the second, its odd rows in the first; the frames before and after it do not matter
+  pub between-two : (before frame after : List A) → length frame ≡ 260
+      → collected d wire (byRow (carried d place (byRow frame after)) (carried d place (byRow before frame))) ≡ frame
+  between-two before frame after size =
+      collected-carried _ (λ r. byRow (byRow frame after) (byRow before frame) r) frame size (λ r h. carries (eqb (r % 2) 0)) (λ r h. same r (eqb (r % 2) 0) refl)
+    where
+      carries : (t : Bool) → cond t (carried d place (byRow frame after)) (carried d place (byRow before frame)) ≡ carried d place (cond t (byRow frame after) (byRow before frame))
+      carries true = refl
+      carries false = refl
+
+      same : (r : ℕ) (t : Bool) → eqb (r % 2) 0 ≡ t → cond t (byRow frame after) (byRow before frame) r ≡ frame
+      same r true e = ap (λ (b : Bool). cond b frame after) e
+      same r false e = ap (λ (b : Bool). cond b before frame) e

@@ -1,2 +1,3 @@
 -- Slots that carry parts of successive frames.
 pub mod Slots
+pub mod Calls

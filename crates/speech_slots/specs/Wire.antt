@@ -2,11 +2,10 @@
 use mathlib.Core.List.{List}
 use Prim.Native.Nat.{ℕ, _+_, _*_, _/_, _%_}
 use lib.ListN.{length}
-use Rattle.bits.specs.Refusals.{firstOf, exactOf, binaryOf}
 use Rattle.bits.specs.Calls.{Written}
-use Rattle.bits.specs.declared.Lent.{Lent}
 use Rattle.bits.specs.declared.Wrote.{Wrote}
 use Rattle.slots.specs.Slots.{carried, collected, byRow}
+use Rattle.slots.specs.Calls.{lentTwo}
 
 -- the place that a slot's bit carries, and the bit that carries a place
 abbrev pub placeAt : ℕ → ℕ
@@ -23,11 +22,7 @@ interleaved d previous current = carried d placeAt (byRow previous current)
 unfoldable pub deinterleaved : {A : Type 0} → A → List A → List A → List A
 deinterleaved d first second = collected d wireOf (byRow second first)
 
--- ---- the calls: two slices and room for the third, each length, then the symbols
-abbrev pub lentTwo : List ℕ → List ℕ → ℕ → Lent
-lentTwo a b room =
-    firstOf (exactOf 260 (length a)) (firstOf (exactOf 260 (length b)) (firstOf (exactOf 260 room) (firstOf (binaryOf a) (binaryOf b))))
-
+-- ---- the calls
 abbrev pub Interleaving : List ℕ → List ℕ → List ℕ → List ℕ → Wrote → Type 0
 Interleaving previous current slot₀ slot r = Written (lentTwo previous current (length slot₀)) (interleaved 0 previous current) slot₀ slot r
 

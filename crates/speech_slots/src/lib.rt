@@ -2,14 +2,12 @@
 // Ported from 136-bts, speech.rs, and changed (see NOTICE).
 use bits::Lent;
 use bits::Wrote;
-use bits::exact;
-use bits::first;
-use bits::only_bits;
+use slots::lent_two;
 ghost use mathlib.Core.Path.{_≡_};
 ghost use Prim.Native.Nat.{_/_, _%_, _<_};
 ghost use lib.ListN.{getD, length};
 ghost use Rattle.speech_slots.specs.Rows.{Row};
-ghost use Rattle.speech_slots.specs.Wire.{Deinterleaving, Interleaving, deinterleaved, interleaved, lentTwo, placeAt, wireOf};
+ghost use Rattle.speech_slots.specs.Wire.{Deinterleaving, Interleaving, deinterleaved, interleaved, placeAt, wireOf};
 
 const ROWS: usize = 26;
 
@@ -55,14 +53,6 @@ fn collect(first: &[u8], second: &[u8], frame: &mut [u8])
         collect_row(pair * 2, second, frame);
         collect_row(pair * 2 + 1, first, frame);
     }
-}
-
-fn lent_two(a: &[u8], b: &[u8], room: usize) -> Lent
-    ensures { λ r. ⌜ r ≡ lentTwo (now (a .entry)) (now (b .entry)) room ⌝ }
-{
-    let symbols = first(only_bits(a), only_bits(b));
-    let later = first(exact(260, b.len()), first(exact(260, room), symbols));
-    first(exact(260, a.len()), later)
 }
 
 // Writes the slot that finishes the previous frame and starts the current one.

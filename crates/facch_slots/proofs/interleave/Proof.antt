@@ -1,6 +1,6 @@
 -- `facch_slots::interleave` meets its contract: a refusal, or the slot. Assumes nothing.
 use Rattle.bits.proofs.Writing.{declined-end, done-end}
-use Rattle.facch_slots.proofs.Answering.{two-fine}
+use Rattle.slots.proofs.Answering.{two-fine}
 use borrow.Author.Needs.{needs}
 use Rattle.facch_slots.proofs.interleave.Statement.{statement}
 use Rattle.facch_slots.proofs.interleave.Tie as tie

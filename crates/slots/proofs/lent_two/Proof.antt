@@ -1,9 +1,9 @@
--- `speech_slots::lent_two` meets its contract: each length, then the symbols. Assumes nothing.
+-- `slots::lent_two` meets its contract: each length, then the symbols. Assumes nothing.
 use mathlib.Core.Path.{ap₂, _∙_}
 use Rattle.bits.specs.Refusals.{firstOf}
 use borrow.Author.Needs.{needs}
-use Rattle.speech_slots.proofs.lent_two.Statement.{statement}
-use Rattle.speech_slots.proofs.lent_two.Tie as tie
+use Rattle.slots.proofs.lent_two.Statement.{statement}
+use Rattle.slots.proofs.lent_two.Tie as tie
 
 only-bits-requires : tie.Need-only-bits-requires
 only-bits-requires c κs = search needs
