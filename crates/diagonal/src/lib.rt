@@ -2,7 +2,8 @@
 // Ported from 136-bts, sacch.rs, and changed (see NOTICE).
 use bits::both;
 ghost use mathlib.Core.Path.{_≡_};
-ghost use Prim.Native.Nat.{_<_};
+ghost use Prim.Native.Nat.{ℕ, _%_, _<_};
+ghost use lib.ListN.{getD, length};
 ghost use Rattle.bits.specs.Bits.{byte};
 ghost use Rattle.diagonal.specs.Diagonal.{allTwelve, bitOf, fieldOf, rowOf};
 
@@ -14,15 +15,26 @@ fn bit_of(x: u16, j: usize) -> u16
     (x >> (11 - j)) % 2
 }
 
+// A ring written twice, one after the other: a run of twelve from any place needs no turn.
+fn twice(ring: [u16; 12]) -> [u16; 24]
+    ensures { λ r. ⌜ (length r ≡ 24) × ((k : ℕ) → k < 24 → getD r k 0 ≡ getD ring (k % 12) 0) ⌝ }
+{
+    let mut run = [0u16; 24];
+    for i in 0..24 {
+        run[i] = ring[i % 12];
+    }
+    run
+}
+
 // The field of the newest row's slot, from the ring of the last twelve rows; `next` is the place of the oldest.
 pub fn field_of(rows: [u16; 12], next: usize) -> u16
     requires { ⌜ next < 12 ⌝ }
     ensures { λ r. ⌜ r ≡ fieldOf rows next ⌝ }
 {
+    let run = twice(rows);
     let mut field: u16 = 0;
     for j in 0..12 {
-        let place = (next + (11 - j)) % 12;
-        field = field * 2 + bit_of(rows[place], j);
+        field = field * 2 + bit_of(run[next + (11 - j)], j);
     }
     field
 }
@@ -32,10 +44,10 @@ pub fn row_of(fields: [u16; 12], next: usize) -> u16
     requires { ⌜ next < 12 ⌝ }
     ensures { λ r. ⌜ r ≡ rowOf fields next ⌝ }
 {
+    let run = twice(fields);
     let mut row: u16 = 0;
     for j in 0..12 {
-        let place = (next + j) % 12;
-        row = row * 2 + bit_of(fields[place], j);
+        row = row * 2 + bit_of(run[next + j], j);
     }
     row
 }

@@ -1,5 +1,6 @@
 -- `diagonal::field_of` meets its contract: the field so far is the number of the bits gathered. Assumes nothing.
-use Prim.Native.Nat.{ℕ, _+_, _-_, _%_}
+use mathlib.Core.Path.{ap}
+use Prim.Native.Nat.{ℕ, _+_, _-_}
 use native.Mathlib.Omega.{arith}
 use lib.ListN.{getD}
 use Rattle.diagonal.specs.Diagonal.{bitOf, fieldOf}
@@ -9,22 +10,25 @@ use Rattle.diagonal.proofs.field_of.Statement.{statement}
 use Rattle.diagonal.proofs.field_of.Tie as tie
 
 abbrev Inv-loop : tie.InvT-loop
-Inv-loop next rows field₀ j₀ field j = Gathering (λ (k : ℕ). bitOf (getD rows ((next + (11 - k)) % 12) 0) k) field j
+Inv-loop next run field₀ j₀ field j = Gathering (λ (k : ℕ). bitOf (getD run (next + (11 - k)) 0) k) field j
 
 abbrev μ-loop : tie.MeasureT-loop
-μ-loop next rows field₀ j₀ field j = 12 - j
+μ-loop next run field₀ j₀ field j = 12 - j
+
+twice-requires : tie.Need-twice-requires Inv-loop μ-loop
+twice-requires c κs = search needs
 
 loop-holds : tie.Need-loop-holds Inv-loop μ-loop
 loop-holds c = gathering-none
 
-sub-place : tie.Need-sub-place Inv-loop μ-loop
-sub-place c = search needs
-
-add-place : tie.Need-add-place Inv-loop μ-loop
-add-place c = search needs
-
 mul-field : tie.Need-mul-field Inv-loop μ-loop
 mul-field c = omega (arith, gathering-room (c .before .loop .inv) (omega arith))
+
+sub-bit-of : tie.Need-sub-bit-of Inv-loop μ-loop
+sub-bit-of c = search needs
+
+add-bit-of : tie.Need-add-bit-of Inv-loop μ-loop
+add-bit-of c = search needs
 
 mul-bit-of : tie.Need-mul-bit-of Inv-loop μ-loop
 mul-bit-of c = search needs
@@ -49,7 +53,7 @@ loop-again c = gathering-more (c .before .before .loop .inv) (omega arith) (c .b
 
 returns : tie.Need-returns Inv-loop μ-loop
 unfolding fieldOf
-returns c = gathering-done (c .before .loop .inv) (omega arith)
+returns c = gathering-done (c .before .loop .inv) (omega arith) (λ j h. ap (λ (x : ℕ). bitOf x j) (c .before .before .twice .ensures .1 _ (omega (arith, c .before .before .before .pre))))
 
 pub field-of-spec : {M : Type 1} → statement M
 field-of-spec =
@@ -57,10 +61,11 @@ field-of-spec =
     (tie.spec
     Inv-loop
     μ-loop
+    twice-requires
     loop-holds
-    sub-place
-    add-place
     mul-field
+    sub-bit-of
+    add-bit-of
     mul-bit-of
     array-read-bit-of
     bit-of-requires

@@ -1,5 +1,6 @@
 -- `diagonal::row_of` meets its contract: the row so far is the number of the bits gathered. Assumes nothing.
-use Prim.Native.Nat.{ℕ, _+_, _-_, _%_}
+use mathlib.Core.Path.{ap}
+use Prim.Native.Nat.{ℕ, _+_, _-_}
 use native.Mathlib.Omega.{arith}
 use lib.ListN.{getD}
 use Rattle.diagonal.specs.Diagonal.{bitOf, rowOf}
@@ -9,19 +10,22 @@ use Rattle.diagonal.proofs.row_of.Statement.{statement}
 use Rattle.diagonal.proofs.row_of.Tie as tie
 
 abbrev Inv-loop : tie.InvT-loop
-Inv-loop next fields row₀ j₀ row j = Gathering (λ (k : ℕ). bitOf (getD fields ((next + k) % 12) 0) k) row j
+Inv-loop next run row₀ j₀ row j = Gathering (λ (k : ℕ). bitOf (getD run (next + k) 0) k) row j
 
 abbrev μ-loop : tie.MeasureT-loop
-μ-loop next fields row₀ j₀ row j = 12 - j
+μ-loop next run row₀ j₀ row j = 12 - j
+
+twice-requires : tie.Need-twice-requires Inv-loop μ-loop
+twice-requires c κs = search needs
 
 loop-holds : tie.Need-loop-holds Inv-loop μ-loop
 loop-holds c = gathering-none
 
-add-place : tie.Need-add-place Inv-loop μ-loop
-add-place c = search needs
-
 mul-row : tie.Need-mul-row Inv-loop μ-loop
 mul-row c = omega (arith, gathering-room (c .before .loop .inv) (omega arith))
+
+add-bit-of : tie.Need-add-bit-of Inv-loop μ-loop
+add-bit-of c = search needs
 
 mul-bit-of : tie.Need-mul-bit-of Inv-loop μ-loop
 mul-bit-of c = search needs
@@ -46,7 +50,7 @@ loop-again c = gathering-more (c .before .before .loop .inv) (omega arith) (c .b
 
 returns : tie.Need-returns Inv-loop μ-loop
 unfolding rowOf
-returns c = gathering-done (c .before .loop .inv) (omega arith)
+returns c = gathering-done (c .before .loop .inv) (omega arith) (λ j h. ap (λ (x : ℕ). bitOf x j) (c .before .before .twice .ensures .1 _ (omega (arith, c .before .before .before .pre))))
 
 pub row-of-spec : {M : Type 1} → statement M
 row-of-spec =
@@ -54,9 +58,10 @@ row-of-spec =
     (tie.spec
     Inv-loop
     μ-loop
+    twice-requires
     loop-holds
-    add-place
     mul-row
+    add-bit-of
     mul-bit-of
     array-read-bit-of
     bit-of-requires
