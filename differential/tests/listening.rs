@@ -20,7 +20,7 @@ fn rule() {
         };
         latest = latest.max(heard.first.unwrap_or(0));
         streams += 1;
-        pushes += heard.fields;
+        pushes += heard.answers.len() as u64;
     }
     println!("listening rule: {premise_failed} streams did not meet the premise");
     tally.part(
@@ -44,7 +44,7 @@ fn tight() {
             continue;
         };
         assert_eq!(heard.first, Some(42));
-        pushes += heard.fields;
+        pushes += heard.answers.len() as u64;
     }
     tally.part("locked beside the boundary", pushes);
     tally.end();

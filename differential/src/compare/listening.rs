@@ -111,8 +111,7 @@ fn check(sent: &Sent, a: usize, answers: &[Pushed]) -> Option<usize> {
 
 /// A stream that met the premise.
 pub struct Heard {
-    pub fields: u64,
-    pub rejected: u64,
+    pub answers: Vec<Pushed>,
     /// The first field from 22 on that gave a word.
     pub first: Option<usize>,
 }
@@ -129,9 +128,8 @@ pub fn rule(p: &mut Prng, sent: &Sent, a: usize, start: &State) -> Option<Heard>
         return None;
     }
     Some(Heard {
-        fields: answers.len() as u64,
-        rejected: answers.iter().filter(|answer| answer.refusal != 0).count() as u64,
         first: check(sent, a, &answers),
+        answers,
     })
 }
 

@@ -26,11 +26,15 @@ impl Answers {
         }
     }
     pub fn calls(&self) -> u64 {
-        self.pending + self.words + self.numbered() + self.discontinuities
+        self.by_number().iter().sum()
     }
-    /// Rejections and refusals.
-    pub fn numbered(&self) -> u64 {
-        self.rejected.iter().sum::<u64>() + self.refused
+    /// By the number of the rejection or refusal; a field above 4095 is 2. At 0 those without.
+    pub fn by_number(&self) -> [u64; 9] {
+        let mut numbers = [0; 9];
+        numbers[..7].copy_from_slice(&self.rejected);
+        numbers[0] = self.pending + self.words + self.discontinuities;
+        numbers[2] += self.refused;
+        numbers
     }
     pub fn text(&self) -> String {
         let [_, _, _, crc, _, ambiguous, reserved] = self.rejected;

@@ -16,8 +16,8 @@ Compares the port with the Rust, call by call, for as long as it is told.
                        goes on where it was (target/campaign/state)
     --summary FILE     the table of calls, refusals and differences, in Markdown, written with them
                        (target/campaign/summary.md)
-    --differences FILE each difference with its input and both answers
-                       (target/campaign/differences.txt)
+    --differences FILE each difference with its input and both answers, the port's left; of each
+                       entry the first 20 (target/campaign/differences.txt)
     --entry NAME --round K [--seed S]
                        that round of that entry alone
 

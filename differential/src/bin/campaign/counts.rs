@@ -1,20 +1,37 @@
 //! What was compared.
 use std::ops::AddAssign;
 
-/// Calls, and those among them that were answered by a number of document 01: refusals, and pushes
-/// that are Rejected.
+/// The numbers of document 01's refusals go to 8.
+pub const NUMBERS: usize = 9;
+
+/// How many calls were answered by each number of document 01, as a refusal or as a push that is
+/// Rejected; at 0 those that were answered by none.
 #[derive(Clone, Copy, Default)]
-pub struct Compared {
-    pub calls: u64,
-    pub refused: u64,
-}
+pub struct Compared(pub [u64; NUMBERS]);
 
 impl Compared {
-    /// One call with this refusal, or 0.
+    /// So many calls with this refusal, or 0.
+    pub fn some(calls: u64, refusal: u8) -> Self {
+        let mut compared = Compared::default();
+        compared.0[usize::from(refusal)] = calls;
+        compared
+    }
     pub fn one(refusal: u8) -> Self {
-        Compared {
-            calls: 1,
-            refused: u64::from(refusal != 0),
+        Compared::some(1, refusal)
+    }
+    pub fn and(mut self, other: Self) -> Self {
+        self += other;
+        self
+    }
+    pub fn calls(&self) -> u64 {
+        self.0.iter().sum()
+    }
+}
+
+impl AddAssign for Compared {
+    fn add_assign(&mut self, other: Self) {
+        for (sum, more) in self.0.iter_mut().zip(other.0) {
+            *sum += more;
         }
     }
 }
@@ -26,11 +43,4 @@ pub struct Counts {
     pub compared: Compared,
     pub differences: u64,
     pub nanoseconds: u64,
-}
-
-impl AddAssign for Compared {
-    fn add_assign(&mut self, other: Self) {
-        self.calls += other.calls;
-        self.refused += other.refused;
-    }
 }

@@ -13,6 +13,7 @@ use arguments::{Asked, Plan, Round, asked};
 use difference::{Verdict, silence};
 use run::Run;
 use std::process::ExitCode;
+use summary::refusals;
 
 const DIFFERS: u8 = 1;
 const WRONG_USE: u8 = 2;
@@ -45,8 +46,8 @@ fn campaign(plan: Plan) -> Result<u8, String> {
 fn again(round: &Round) -> u8 {
     match round.verdict() {
         Verdict::Same(compared) => {
-            let (calls, refused) = (compared.calls, compared.refused);
-            println!("{round}: {calls} calls, {refused} of them refused, no difference");
+            let (calls, refusals) = (compared.calls(), refusals(&compared));
+            println!("{round}: {calls} calls compared, refusals {refusals}, no difference");
             0
         }
         Verdict::Differs(text) => {

@@ -40,7 +40,7 @@ impl Progress {
 pub fn line(state: &State) -> String {
     let seconds = state.elapsed.as_secs();
     let entries = ENTRIES.iter().zip(&state.entries);
-    let calls = entries.map(|(entry, counts)| (counts.compared.calls, entry.name));
+    let calls = entries.map(|(entry, counts)| (counts.compared.calls(), entry.name));
     let (fewest, slowest) = calls.min().expect("entries");
     format!(
         "{}:{:02} {} calls, {} of {slowest}, {} differences",

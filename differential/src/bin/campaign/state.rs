@@ -1,5 +1,5 @@
 //! The counters of a run, and the file that keeps them.
-use crate::counts::{Compared, Counts};
+use crate::counts::{Compared, Counts, NUMBERS};
 use crate::entries::ENTRIES;
 use std::fs;
 use std::path::Path;
@@ -43,7 +43,10 @@ impl State {
         }
     }
     pub fn calls(&self) -> u64 {
-        self.entries.iter().map(|entry| entry.compared.calls).sum()
+        self.entries
+            .iter()
+            .map(|entry| entry.compared.calls())
+            .sum()
     }
     pub fn differences(&self) -> u64 {
         self.entries.iter().map(|entry| entry.differences).sum()
@@ -53,14 +56,8 @@ impl State {
         let (seed, elapsed) = (self.seed, self.elapsed.as_millis());
         let mut text = format!("{FORM}\nseed {seed}\narchive {bytes} {hash}\nelapsed {elapsed}\n");
         for (entry, counts) in ENTRIES.iter().zip(&self.entries) {
-            let Counts {
-                rounds,
-                compared: Compared { calls, refused },
-                differences,
-                nanoseconds,
-            } = counts;
-            let line = format!("{rounds} {calls} {refused} {differences} {nanoseconds}");
-            text += &format!("{} {line}\n", entry.name);
+            let line = numbered(counts).map(|number| number.to_string());
+            text += &format!("{} {}\n", entry.name, line.join(" "));
         }
         text
     }
@@ -116,14 +113,23 @@ fn numbers(line: &str, name: &str) -> Option<Vec<u64>> {
     rest.split(' ').map(|number| number.parse().ok()).collect()
 }
 
+/// Rounds, differences, nanoseconds, then the calls by number.
+fn numbered(counts: &Counts) -> [u64; 3 + NUMBERS] {
+    let head = [counts.rounds, counts.differences, counts.nanoseconds];
+    std::array::from_fn(|at| match at {
+        0..3 => head[at],
+        _ => counts.compared.0[at - 3],
+    })
+}
+
 fn counts(numbers: &[u64]) -> Option<Counts> {
-    let [rounds, calls, refused, differences, nanoseconds] = *numbers else {
+    let [rounds, differences, nanoseconds, compared @ ..] = numbers else {
         return None;
     };
     Some(Counts {
-        rounds,
-        compared: Compared { calls, refused },
-        differences,
-        nanoseconds,
+        rounds: *rounds,
+        compared: Compared(compared.try_into().ok()?),
+        differences: *differences,
+        nanoseconds: *nanoseconds,
     })
 }

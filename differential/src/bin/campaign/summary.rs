@@ -1,4 +1,5 @@
 //! The summary of a run, in Markdown.
+use crate::counts::Compared;
 use crate::entries::ENTRIES;
 use crate::state::State;
 use std::path::Path;
@@ -21,30 +22,41 @@ pub fn summary(state: &State, differences: &Path) -> String {
     let seconds = state.elapsed.as_secs();
     let mut text = format!(
         "Seed {}, {} minutes {} seconds, archive of {} bytes, FNV-1a {:016x}.\n\n\
-         | entry | calls | refusals among them | differences |\n|---|---|---|---|\n",
+         | entry | calls | refusals among them, by number | differences |\n|---|---|---|---|\n",
         state.seed,
         seconds / 60,
         seconds % 60,
         grouped(state.archive.bytes as u64),
         state.archive.hash
     );
-    let mut refused = 0;
+    let mut all = Compared::default();
     for (entry, counts) in ENTRIES.iter().zip(&state.entries) {
-        let compared = counts.compared;
-        text += &row(
-            &format!("`{}`", entry.name),
-            [compared.calls, compared.refused, counts.differences],
-        );
-        refused += compared.refused;
+        let name = format!("`{}`", entry.name);
+        text += &row(&name, &counts.compared, counts.differences);
+        all += counts.compared;
     }
-    text += &row("all", [state.calls(), refused, state.differences()]);
+    text += &row("all", &all, state.differences());
     if state.differences() > 0 {
         text += &format!("\nThe differences are told in {}.\n", differences.display());
     }
     text
 }
 
-fn row(name: &str, numbers: [u64; 3]) -> String {
-    let [calls, refused, differences] = numbers.map(grouped);
-    format!("| {name} | {calls} | {refused} | {differences} |\n")
+fn row(name: &str, compared: &Compared, differences: u64) -> String {
+    let (calls, differences) = (grouped(compared.calls()), grouped(differences));
+    let refusals = refusals(compared);
+    format!("| {name} | {calls} | {refusals} | {differences} |\n")
+}
+
+/// By their numbers, as `2: 17, 3: 1,234`.
+pub fn refusals(compared: &Compared) -> String {
+    let numbers = compared.0.iter().enumerate().skip(1);
+    let met = numbers.filter(|(_, calls)| **calls > 0);
+    let told: Vec<String> = met
+        .map(|(number, calls)| format!("{number}: {}", grouped(*calls)))
+        .collect();
+    match told.is_empty() {
+        true => "none".into(),
+        false => told.join(", "),
+    }
 }

@@ -35,7 +35,7 @@ pub static ENTRIES: [Entry; 28] = [
     entry("dcch::checksum", COMMON, coding::checksum),
     entry("acelp_cc1::checksum", COMMON, coding::checksum7),
     entry("dcch::viterbi", COMMON, coding::search),
-    entry("sacch::viterbi", COMMON, coding::free_search),
+    entry("viterbi_free", COMMON, coding::free_search),
     entry("dcch::encode", COMMON, dcch::encode),
     entry("dcch::decode", LONG, dcch::decode),
     entry("dcch::decode_soft", LONG, dcch::decode_soft),

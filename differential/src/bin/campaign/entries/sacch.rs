@@ -5,7 +5,7 @@ use differential::air::{MESSAGES, any_encoder, any_receiver};
 use differential::blocks::{Ends, Kind, bytes, code, flip};
 use differential::compare::dcch::burst;
 use differential::compare::listening::{self, Sent, latest_start};
-use differential::compare::sacch::{self, CODED, WORD, word};
+use differential::compare::sacch::{self, WORD, word};
 use differential::compare::sacch_encoder::{self, Calls, bad_cursor, bad_memory, bad_row, list};
 use differential::compare::sacch_receiver::{self, Air, Answers, Part, spoilt};
 use differential::phy::sacch::SacchEncoder;
@@ -21,10 +21,8 @@ pub fn encoder(p: &mut Prng) -> Compared {
     };
     let mut calls = Calls::default();
     list(p, &mut calls, rust);
-    Compared {
-        calls: calls.words + calls.sixes + calls.refusals + calls.resets,
-        refused: calls.refusals,
-    }
+    let answered = calls.words + calls.sixes + calls.resets;
+    Compared::some(answered, 0).and(Compared::some(calls.refusals, 2))
 }
 
 /// A state with a part past its bound: both calls refuse it, whatever they are given, and it can be
@@ -54,10 +52,7 @@ fn bad_encoder(p: &mut Prng) -> Compared {
     };
     let six = p.byte();
     sacch_encoder::refused_state(p, port, six, message);
-    Compared {
-        calls: 3,
-        refused: 2,
-    }
+    Compared::some(2, 8).and(Compared::one(0))
 }
 
 /// A word as sent from any memory, one time in eight with its reserved bit set, with wrong bits,
@@ -88,7 +83,6 @@ fn window(p: &mut Prng, dvcc: u8) -> Vec<bool> {
 pub fn decode(p: &mut Prng) -> Compared {
     let dvcc = p.byte();
     let mut coded = bytes(&window(p, dvcc));
-    debug_assert_eq!(coded.len(), CODED);
     spoil(p, &mut [&mut coded], &mut []);
     let heard = if p.below(8) == 0 { p.byte() } else { dvcc };
     Compared::one(sacch::decode(&coded, heard).refusal)
@@ -107,10 +101,7 @@ pub fn receiver(p: &mut Prng) -> Compared {
     };
     let mut answers = Answers::default();
     answers.stream(p, air);
-    Compared {
-        calls: answers.calls(),
-        refused: answers.numbered(),
-    }
+    Compared(answers.by_number())
 }
 
 /// A record with a part past its bound, by one or by any number.
@@ -130,10 +121,7 @@ fn bad_receiver(p: &mut Prng) -> Compared {
     let port = spoilt(p, part, past);
     let field = p.draw() as u16;
     sacch_receiver::refused_state(p, port, &[field]);
-    Compared {
-        calls: 2,
-        refused: 1,
-    }
+    Compared::one(8).and(Compared::one(0))
 }
 
 /// Fields of streams that meet the premise.
@@ -148,8 +136,8 @@ pub fn listening(p: &mut Prng) -> Compared {
         return Compared::default();
     };
     assert!(!latest || heard.first == Some(42), "{start:?} {sent:?}");
-    Compared {
-        calls: heard.fields,
-        refused: heard.rejected,
-    }
+    let answers = heard.answers.iter();
+    answers
+        .map(|answer| Compared::one(answer.refusal))
+        .fold(Compared::default(), Compared::and)
 }

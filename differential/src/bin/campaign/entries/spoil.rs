@@ -20,7 +20,7 @@ pub fn length(p: &mut Prng, right: usize) -> usize {
 pub fn byte(p: &mut Prng, bytes: &mut [u8]) {
     if !bytes.is_empty() {
         let place = p.below(bytes.len());
-        // 2 and 3 more often: they have a bit's name or look like two.
+        // 2 more often: FACCH's unobserved bit.
         bytes[place] = [2, 3, 2 + p.below(254) as u8][p.below(3)];
     }
 }
