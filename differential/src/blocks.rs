@@ -38,6 +38,12 @@ pub const KINDS: [Kind; 6] = [
     Kind::Far,
 ];
 
+impl Kind {
+    pub fn any(p: &mut Prng) -> Self {
+        KINDS[p.below(KINDS.len())]
+    }
+}
+
 pub fn bytes(bits: &[bool]) -> Vec<u8> {
     bits.iter().map(|bit| u8::from(*bit)).collect()
 }

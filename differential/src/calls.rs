@@ -1,31 +1,63 @@
-//! A call of the port that writes into lent buffers, made with margins around them, and counts of
-//! answers.
+//! A call of the port that writes into a lent buffer, made with margins around it, what its slices
+//! are refused for, and counts of answers.
 use crate::lent::Lent;
-use crate::port_facch::{DONE, Written};
+use crate::port_facch::{DONE, SYMBOL, Written, length};
+use std::fmt::Debug;
 
-/// Makes a call that must fill the buffer with these bytes.
+/// Makes a call on a lent buffer. It must give this answer and leave these bytes there, or where
+/// there are none leave the buffer alone.
 #[track_caller]
-pub fn writes(wanted: &[u8], call: impl FnOnce(&mut [u8]) -> Written) {
-    let mut lent = Lent::new(wanted.len());
-    assert_eq!(call(lent.lend()), DONE);
-    assert_eq!(lent.written(), wanted);
-    assert!(lent.margins_whole(), "written beside");
-}
-
-/// Makes a call that must be refused and leave the buffer alone.
-#[track_caller]
-pub fn refuses(room: usize, wanted: Written, call: impl FnOnce(&mut [u8]) -> Written) {
+pub fn lend<A: Debug + PartialEq>(
+    input: impl Debug,
+    room: usize,
+    wanted: A,
+    bytes: Option<&[u8]>,
+    call: impl FnOnce(&mut [u8]) -> A,
+) -> A {
     let mut lent = Lent::new(room);
-    assert_eq!(call(lent.lend()), wanted);
-    assert!(lent.untouched(), "refused but written");
+    assert_eq!(call(lent.lend()), wanted, "{input:?}");
+    lent.holds(bytes, input);
+    wanted
 }
 
-/// The first of some lengths that is not the one asked for.
-pub fn first_wrong(lengths: &[(usize, usize)]) -> Option<(usize, usize)> {
-    lengths
-        .iter()
-        .copied()
-        .find(|(expected, actual)| expected != actual)
+/// Makes a call that must write these bytes, or be refused.
+#[track_caller]
+pub fn writes(
+    input: impl Debug,
+    room: usize,
+    wanted: Result<Vec<u8>, Written>,
+    call: impl FnOnce(&mut [u8]) -> Written,
+) -> Written {
+    match wanted {
+        Ok(bytes) => lend(input, room, DONE, Some(&bytes), call),
+        Err(refusal) => lend(input, room, refusal, None, call),
+    }
+}
+
+/// The refusal of some inputs, each with its right length, and of the slices to write, right
+/// length first: lengths in the order of the arguments, then bytes that are no bits.
+pub fn refusal(inputs: &[(usize, &[u8])], rooms: &[(usize, usize)]) -> Option<Written> {
+    let given = inputs.iter().map(|(right, bytes)| (*right, bytes.len()));
+    let wrong = |(expected, actual): &(usize, usize)| expected != actual;
+    if let Some((expected, actual)) = given.chain(rooms.iter().copied()).find(wrong) {
+        return Some(length(expected, actual));
+    }
+    let bits = inputs.iter().all(|(_, bytes)| only_bits(bytes));
+    (!bits).then_some(SYMBOL)
+}
+
+pub fn only_bits(bytes: &[u8]) -> bool {
+    bytes.iter().all(|byte| *byte < 2)
+}
+
+/// Bits of the right number, once `refusal` has let them pass.
+pub fn array<const N: usize>(bytes: &[u8]) -> [bool; N] {
+    assert_eq!(bytes.len(), N);
+    std::array::from_fn(|place| bytes[place] == 1)
+}
+
+pub fn bools(bytes: &[u8]) -> Vec<bool> {
+    bytes.iter().map(|byte| *byte == 1).collect()
 }
 
 /// How often each answer of a speech decoder came.
@@ -37,6 +69,13 @@ pub struct FrameAnswers {
 }
 
 impl FrameAnswers {
+    pub fn count(&mut self, answer: &crate::port_speech::Frame) {
+        match (answer.refusal, answer.valid) {
+            (0, true) => self.valid += 1,
+            (0, false) => self.failed += 1,
+            _ => self.ambiguous += 1,
+        }
+    }
     pub fn calls(&self) -> u64 {
         self.valid + self.failed + self.ambiguous
     }

@@ -1,4 +1,5 @@
 //! A buffer to lend: filled with a pattern that is no bit, between two margins of the same.
+use std::fmt::Debug;
 use std::ops::Range;
 
 const PATTERN: u8 = 0xa5;
@@ -31,5 +32,15 @@ impl Lent {
     }
     pub fn untouched(&self) -> bool {
         self.bytes.iter().all(|byte| *byte == PATTERN)
+    }
+    /// These bytes and nothing beside them, or where there are none, the pattern as it was.
+    #[track_caller]
+    pub fn holds(&self, bytes: Option<&[u8]>, input: impl Debug) {
+        let Some(bytes) = bytes else {
+            assert!(self.untouched(), "refused but written: {input:?}");
+            return;
+        };
+        assert_eq!(self.written(), bytes, "{input:?}");
+        assert!(self.margins_whole(), "written beside: {input:?}");
     }
 }

@@ -5,6 +5,7 @@ pub mod blocks;
 pub mod calls;
 pub mod channel;
 pub mod codec;
+pub mod compare;
 pub mod lent;
 pub mod lines;
 #[cfg(osmocore)]

@@ -51,6 +51,13 @@ impl Word {
             observed: 0,
         }
     }
+    pub const fn length(expected: usize, actual: usize) -> Self {
+        Word {
+            expected,
+            actual,
+            ..Word::refused(1)
+        }
+    }
 }
 
 unsafe extern "C" {

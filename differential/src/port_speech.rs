@@ -30,11 +30,12 @@ impl Frame {
             ..Frame::accepted(false, 0)
         }
     }
-    pub const fn length(expected: usize, actual: usize) -> Self {
+    /// The refusal of slices.
+    pub const fn of(written: Written) -> Self {
         Frame {
-            expected,
-            actual,
-            ..Frame::refused(1)
+            expected: written.expected,
+            actual: written.actual,
+            ..Frame::refused(written.refusal)
         }
     }
 }

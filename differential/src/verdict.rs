@@ -1,9 +1,10 @@
-//! Answers of DCCH's calls, and the port's compared with the Rust's: refusal, count and every byte
-//! of the lent buffer.
+//! Answers of DCCH's calls, and calls of the port that must give them: refusal, count and every
+//! byte of the lent buffer.
 use crate::blocks::bytes;
-use crate::lent::Lent;
-use crate::phy::dcch::{BlockError, BlockFormat, DecodedBlock};
+use crate::calls::lend;
+use crate::phy::dcch::BlockError;
 use crate::port::Block;
+use std::fmt::Debug;
 
 pub const SYMBOL: Block = refused(2);
 pub const CRC: Block = refused(3);
@@ -41,31 +42,27 @@ pub fn error(error: BlockError) -> Block {
     }
 }
 
-/// Makes a call that must be refused and must leave the buffer alone. `input` is for the message.
+/// Makes a call that must be refused and must leave the buffer alone.
 #[track_caller]
 pub fn refuse(
-    input: impl Fn() -> String,
-    lent: usize,
+    input: impl Debug,
+    room: usize,
     wanted: Block,
     call: impl FnOnce(&mut [u8]) -> Block,
 ) {
-    let mut lent = Lent::new(lent);
-    assert_eq!(call(lent.lend()), wanted, "{}", input());
-    assert!(lent.untouched(), "refused but written: {}", input());
+    lend(input, room, wanted, None, call);
 }
 
 /// Makes a call that must be accepted and must fill the buffer with these bits.
 #[track_caller]
 pub fn accept(
-    input: impl Fn() -> String,
+    input: impl Debug,
     bits: &[bool],
     corrected: u16,
     call: impl FnOnce(&mut [u8]) -> Block,
 ) {
-    let mut lent = Lent::new(bits.len());
-    assert_eq!(call(lent.lend()), accepted(corrected), "{}", input());
-    assert_eq!(lent.written(), bytes(bits), "{}", input());
-    assert!(lent.margins_whole(), "written beside: {}", input());
+    let wanted = accepted(corrected);
+    lend(input, bits.len(), wanted, Some(&bytes(bits)), call);
 }
 
 /// How often each answer of a decoder came.
@@ -76,24 +73,10 @@ pub struct Answers {
 }
 
 impl Answers {
-    /// Compares the port's call on a block of the right length with the Rust's answer.
-    #[track_caller]
-    pub fn compare(
-        &mut self,
-        input: impl Fn() -> String,
-        format: BlockFormat,
-        rust: &Result<DecodedBlock, BlockError>,
-        call: impl FnOnce(&mut [u8]) -> Block,
-    ) {
-        match rust {
-            Ok(block) => {
-                accept(input, &block.information, block.corrected_coded_bits, call);
-                self.words += 1;
-            }
-            Err(refusal) => {
-                refuse(input, format.information_bits(), error(*refusal), call);
-                self.crc += 1;
-            }
+    pub fn count(&mut self, answer: Block) {
+        match answer.refusal {
+            0 => self.words += 1,
+            _ => self.crc += 1,
         }
     }
     pub fn calls(&self) -> u64 {

@@ -1,31 +1,18 @@
 //! ACELP CC1 frames coded, decoded and put into slots by the port and by the Rust, the decoder
 //! beside an independent count of the nearest words. The codec's bits are converted by the
 //! original's `codec_bits` and `from_codec_bits`.
-use differential::blocks::{Ends, KINDS, Kind, bytes, flip, text};
-use differential::calls::{FrameAnswers, first_wrong, refuses, writes};
-use differential::codec::mr74::Parameters;
-use differential::lent::Lent;
-use differential::phy::acelp_cc1 as rust;
-use differential::phy::acelp_cc1::{CHANNEL_BITS, DecodeError, Interleaving, PROTECTED_BITS};
-use differential::port_facch::{SYMBOL, length};
+use differential::blocks::{Ends, KINDS, Kind, bytes, flip};
+use differential::calls::FrameAnswers;
+use differential::compare::acelp::{INPUTS, MODES, SPEECH, coded, placed};
+use differential::compare::acelp::{decode, deinterleave, encode, interleave};
+use differential::phy::acelp_cc1::{CHANNEL_BITS, Interleaving};
+use differential::port_facch::SYMBOL;
 use differential::port_speech::Frame;
-use differential::port_speech::acelp as port;
 use differential::prng::Prng;
-use differential::reference;
 use differential::tally::Tally;
 
-const SPEECH: usize = 148;
-const INPUTS: usize = 108;
-const PERIOD: usize = 27;
-const MODES: [Interleaving; 3] = [Interleaving::One, Interleaving::Two, Interleaving::Three];
-
-fn encode(speech: &[bool; SPEECH]) -> [bool; CHANNEL_BITS] {
-    rust::encode(&Parameters::from_codec_bits(speech))
-}
-
 fn compare_encode(speech: &[bool; SPEECH]) {
-    let given = bytes(speech);
-    writes(&bytes(&encode(speech)), |lent| port::encode(&given, lent));
+    encode(&bytes(speech), CHANNEL_BITS);
 }
 
 #[test]
@@ -46,30 +33,7 @@ fn encoded() {
 
 #[track_caller]
 fn compare(answers: &mut FrameAnswers, frame: &[bool; CHANNEL_BITS]) {
-    let mut lent = Lent::new(SPEECH);
-    let answer = port::decode(&bytes(frame), lent.lend());
-    let decoded = rust::decode(frame);
-    let nearest = reference::punctured(&frame[..PROTECTED_BITS], PERIOD);
-    assert_eq!(decoded.is_err(), nearest.words > 1, "{}", text(frame));
-    match decoded {
-        Ok(decoded) => {
-            let (valid, corrected) = (decoded.crc_valid, decoded.corrected_coded_bits);
-            assert_eq!(answer, Frame::accepted(valid, corrected), "{}", text(frame));
-            assert_eq!(u32::from(corrected), nearest.metric);
-            assert_eq!(lent.written(), bytes(&decoded.parameters.codec_bits()));
-            assert!(lent.margins_whole());
-            *(if valid {
-                &mut answers.valid
-            } else {
-                &mut answers.failed
-            }) += 1;
-        }
-        Err(DecodeError::Ambiguous) => {
-            assert_eq!(answer, Frame::refused(5), "{}", text(frame));
-            assert!(lent.untouched(), "refused but written");
-            answers.ambiguous += 1;
-        }
-    }
+    answers.count(&decode(&bytes(frame), SPEECH));
 }
 
 #[test]
@@ -79,7 +43,7 @@ fn damaged() {
     for flips in 0..=12 {
         let mut answers = FrameAnswers::default();
         for _ in 0..2500 {
-            let mut frame = encode(&p.array());
+            let mut frame = coded(&p.array());
             flip(&mut p, &mut frame, flips);
             compare(&mut answers, &frame);
         }
@@ -90,16 +54,6 @@ fn damaged() {
     tally.end();
 }
 
-/// What is sent of the coded bits of all steps.
-fn sent(coded: &[bool]) -> Vec<bool> {
-    coded
-        .chunks_exact(2)
-        .enumerate()
-        .filter(|(step, _)| !rust::probe::punctured(*step))
-        .flat_map(|(_, pair)| pair.to_vec())
-        .collect()
-}
-
 #[test]
 fn every_kind() {
     let mut p = Prng(0xacf);
@@ -107,10 +61,8 @@ fn every_kind() {
     for kind in KINDS {
         let mut answers = FrameAnswers::default();
         for _ in 0..4000 {
-            let protected = sent(&Ends::Zero.block(&mut p, kind, INPUTS));
-            let mut frame: [bool; CHANNEL_BITS] = p.array();
-            frame[..PROTECTED_BITS].copy_from_slice(&protected);
-            compare(&mut answers, &frame);
+            let coded = Ends::Zero.block(&mut p, kind, INPUTS);
+            compare(&mut answers, &placed(&mut p, &coded));
         }
         assert!(kind != Kind::Near || answers.ambiguous > 0);
         assert!(kind != Kind::Noise || answers.failed > 0);
@@ -121,12 +73,8 @@ fn every_kind() {
 
 fn compare_slots(three: &[[bool; CHANNEL_BITS]; 3], mode: Interleaving) {
     let given = bytes(three.as_flattened());
-    writes(&bytes(&rust::interleave(three, mode)), |lent| {
-        port::interleave(&given, mode, lent)
-    });
-    writes(&bytes(&rust::deinterleave(three, mode)), |lent| {
-        port::deinterleave(&given, mode, lent)
-    });
+    interleave(&given, mode, CHANNEL_BITS);
+    deinterleave(&given, mode, CHANNEL_BITS);
 }
 
 #[test]
@@ -154,29 +102,21 @@ fn refused() {
     let mut p = Prng(0xac4);
     let mut tally = Tally::new("ACELP refusals");
     let around = |right: usize| [0, 1, right - 1, right, right + 1, 2 * right];
-    let written = |wrong: Option<(usize, usize)>| {
-        wrong.map_or(SYMBOL, |(expected, actual)| length(expected, actual))
-    };
     let mut calls = 0;
     for room in around(260) {
         for speech in around(148) {
-            let wanted = written(first_wrong(&[(148, speech), (260, room)]));
-            let given = vec![2; speech];
-            refuses(room, wanted, |lent| port::encode(&given, lent));
-            let mut lent = Lent::new(speech);
-            let answer = port::decode(&vec![9; room], lent.lend());
-            let wrong = first_wrong(&[(260, room), (148, speech)]);
-            let wanted = wrong.map_or(Frame::refused(2), |(e, n)| Frame::length(e, n));
-            assert_eq!(answer, wanted);
-            assert!(lent.untouched());
+            let (coded, decoded) = (
+                encode(&vec![2; speech], room),
+                decode(&vec![9; room], speech),
+            );
+            assert!(coded.refusal > 0 && decoded.refusal > 0);
             calls += 2;
         }
         for three in around(780) {
             for mode in MODES {
-                let wanted = written(first_wrong(&[(780, three), (260, room)]));
                 let given = vec![2; three];
-                refuses(room, wanted, |lent| port::interleave(&given, mode, lent));
-                refuses(room, wanted, |lent| port::deinterleave(&given, mode, lent));
+                assert_ne!(interleave(&given, mode, room).refusal, 0);
+                assert_ne!(deinterleave(&given, mode, room).refusal, 0);
                 calls += 2;
             }
         }
@@ -188,19 +128,16 @@ fn refused() {
             let mut three = bytes(&p.bits(780));
             three[place] = byte;
             for mode in MODES {
-                refuses(260, SYMBOL, |lent| port::interleave(&three, mode, lent));
-                refuses(260, SYMBOL, |lent| port::deinterleave(&three, mode, lent));
+                assert_eq!(interleave(&three, mode, 260), SYMBOL);
+                assert_eq!(deinterleave(&three, mode, 260), SYMBOL);
             }
             calls += 6;
             if place < CHANNEL_BITS {
-                let mut lent = Lent::new(SPEECH);
-                let answer = port::decode(&three[..260], lent.lend());
-                assert_eq!(answer, Frame::refused(2));
-                assert!(lent.untouched());
+                assert_eq!(decode(&three[..260], SPEECH), Frame::refused(2));
                 calls += 1;
             }
             if place < SPEECH {
-                refuses(260, SYMBOL, |lent| port::encode(&three[..148], lent));
+                assert_eq!(encode(&three[..148], 260), SYMBOL);
                 calls += 1;
             }
         }

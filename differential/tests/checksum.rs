@@ -1,28 +1,15 @@
 //! The 16-bit checksum against the Rust's, and its refusal of bytes that are no bit.
-use differential::blocks::{bytes, text};
-use differential::phy::dcch::{CrcMode, probe};
-use differential::port::{self, Checksum};
+use differential::blocks::bytes;
+use differential::channel::MODES;
+use differential::compare::checksum::{self, SYMBOL};
+use differential::phy::dcch::CrcMode;
 use differential::prng::Prng;
 use differential::tally::Tally;
 
-const SYMBOL: Checksum = Checksum {
-    refusal: 2,
-    value: 0,
-};
-const MODES: [CrcMode; 2] = [CrcMode::Addressed, CrcMode::Broadcast];
 const LONG: [usize; 9] = [511, 512, 513, 1000, 4096, 65535, 65536, 65537, 100_000];
 
-fn broadcast(mode: CrcMode) -> bool {
-    mode == CrcMode::Broadcast
-}
-
 fn compare(information: &[bool], dvcc: u8, mode: CrcMode) {
-    let wanted = Checksum {
-        refusal: 0,
-        value: probe::checksum(information, dvcc, mode),
-    };
-    let answer = port::checksum(&bytes(information), dvcc, broadcast(mode));
-    assert_eq!(answer, wanted, "{dvcc} {mode:?} {}", text(information));
+    checksum::checksum(&bytes(information), dvcc, mode);
 }
 
 /// Each colour code in both modes, on information of its own; returns the calls.
@@ -69,9 +56,9 @@ fn refuse_each(p: &mut Prng, len: usize, places: impl Iterator<Item = usize>) ->
         for wrong in 2..=u8::MAX {
             let mut information = bytes(&p.bits(len));
             information[place] = wrong;
-            let (dvcc, mode) = (p.byte(), p.bit());
-            let answer = port::checksum(&information, dvcc, mode);
-            assert_eq!(answer, SYMBOL, "byte {wrong} at {place} of {len}");
+            let (dvcc, mode) = (p.byte(), MODES[usize::from(p.bit())]);
+            let answer = checksum::checksum(&information, dvcc, mode);
+            assert_eq!(answer, SYMBOL);
             calls += 1;
         }
     }
@@ -91,8 +78,8 @@ fn wrong_bytes() {
     let calls = refuse_each(&mut p, 100_000, places.into_iter());
     tally.part("one in a long block", calls);
     for wrong in 2..=u8::MAX {
-        for mode in [false, true] {
-            assert_eq!(port::checksum(&[wrong; 109], wrong, mode), SYMBOL);
+        for mode in MODES {
+            assert_eq!(checksum::checksum(&[wrong; 109], wrong, mode), SYMBOL);
         }
     }
     tally.part("nothing else", 508);

@@ -1,28 +1,10 @@
 //! The 7-bit checksum against ACELP's and speech's, and its refusal of bytes that are no bit.
-use differential::blocks::{bytes, text};
-use differential::phy::{acelp_cc1, speech};
-use differential::port::{self, Checksum};
+use differential::blocks::bytes;
+use differential::compare::checksum::{SYMBOL, checksum7, significant};
+use differential::phy::speech;
 use differential::prng::Prng;
 use differential::reference::words;
 use differential::tally::Tally;
-
-const SYMBOL: Checksum = Checksum {
-    refusal: 2,
-    value: 0,
-};
-
-fn compare(information: &[bool], value: u8) {
-    let wanted = Checksum {
-        refusal: 0,
-        value: u16::from(value),
-    };
-    let answer = port::checksum7(&bytes(information));
-    assert_eq!(answer, wanted, "{}", text(information));
-}
-
-fn compare_acelp(information: &[bool]) {
-    compare(information, acelp_cc1::probe::checksum(information));
-}
 
 #[test]
 fn acelp() {
@@ -30,21 +12,21 @@ fn acelp() {
     let mut tally = Tally::new("7-bit checksum, ACELP's");
     let mut calls = 0;
     for word in (0..=14).flat_map(words) {
-        compare_acelp(&word);
+        checksum7(&bytes(&word));
         calls += 1;
     }
     tally.part("all of 0 to 14 bits", calls);
     for len in (0..=300).flat_map(|len| [len; 100]) {
-        compare_acelp(&p.bits(len));
+        checksum7(&bytes(&p.bits(len)));
     }
     tally.part("lengths 0 to 300", 30_100);
     for _ in 0..100_000 {
-        compare_acelp(&p.bits(48));
+        checksum7(&bytes(&p.bits(48)));
     }
     tally.part("48 bits", 100_000);
     let long = [1000, 4096, 65535, 65536, 65537, 100_000];
     for len in long {
-        compare_acelp(&p.bits(len));
+        checksum7(&bytes(&p.bits(len)));
     }
     tally.part("long ones", long.len() as u64);
     tally.end();
@@ -61,7 +43,7 @@ fn speech_input() {
         for (bit, place) in information.iter().zip(speech::probe::SIGNIFICANT_POSITIONS) {
             input[place] = *bit;
         }
-        compare(&information, speech::probe::checksum(&input));
+        significant(&input);
         calls += 1;
     }
     tally.part("all of the 12 significant bits", calls);
@@ -78,8 +60,7 @@ fn wrong_bytes() {
             for wrong in 2..=u8::MAX {
                 let mut information = bytes(&p.bits(len));
                 information[place] = wrong;
-                let answer = port::checksum7(&information);
-                assert_eq!(answer, SYMBOL, "byte {wrong} at {place} of {len}");
+                assert_eq!(checksum7(&information), SYMBOL);
                 calls += 1;
             }
         }

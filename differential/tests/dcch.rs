@@ -1,18 +1,15 @@
 //! DCCH blocks coded and decoded by the port and by the Rust, in every format and mode.
-use differential::blocks::{KINDS, Kind, bytes, flip, text};
+use differential::blocks::{KINDS, Kind, bytes, flip};
 use differential::channel::{Channel, FORMATS, MODES};
-use differential::phy::dcch::{self, BlockFormat, CrcMode};
+use differential::compare::dcch::{self, burst, other};
+use differential::phy::dcch::{BlockFormat, CrcMode};
 use differential::prng::Prng;
 use differential::tally::Tally;
 use differential::verdict::{Answers, CRC, accept, refuse};
 
 fn encode(channel: Channel, information: &[bool]) {
-    let Channel { format, dvcc, mode } = channel;
-    let block = dcch::encode(format, information, dvcc, mode).unwrap();
-    let input = || format!("{channel:?} {}", text(information));
-    accept(input, &block, 0, |lent| {
-        channel.encode(&bytes(information), lent)
-    });
+    let room = channel.format.encoded_bits();
+    dcch::encode(channel, &bytes(information), room);
 }
 
 /// Each colour code in both modes.
@@ -52,12 +49,8 @@ fn encoded() {
 }
 
 fn decode(answers: &mut Answers, channel: Channel, block: &[bool]) {
-    let Channel { format, dvcc, mode } = channel;
-    let rust = dcch::decode(format, block, dvcc, mode);
-    let input = || format!("{channel:?} {}", text(block));
-    answers.compare(input, format, &rust, |lent| {
-        channel.decode(&bytes(block), lent)
-    });
+    let room = channel.format.information_bits();
+    answers.count(dcch::decode(channel, &bytes(block), room));
 }
 
 #[test]
@@ -117,8 +110,7 @@ fn bursts_on_the_wire() {
             let channel = Channel::draw(&mut p, format);
             let mut block = channel.block(&mut p, Kind::Clean);
             let run = 1 + p.below(60);
-            let at = p.below(block.len() - run + 1);
-            block[at..at + run].fill_with(|| p.bit());
+            burst(&mut p, &mut block, run);
             decode(&mut answers, channel, &block);
         }
         assert!(answers.words > 500 && answers.crc > 0);
@@ -126,13 +118,6 @@ fn bursts_on_the_wire() {
         tally.part(&what, answers.calls());
     }
     tally.end();
-}
-
-fn other(mode: CrcMode) -> CrcMode {
-    match mode {
-        CrcMode::Addressed => CrcMode::Broadcast,
-        CrcMode::Broadcast => CrcMode::Addressed,
-    }
 }
 
 /// Blocks heard where they were sent, under another colour code, and in the other mode.
@@ -173,16 +158,15 @@ fn zeros() {
     ] {
         let (block, zeros) = (vec![false; coded], vec![false; information]);
         let addressed = Channel::zero(format);
-        let input = || format!("{format:?}");
-        accept(input, &block, 0, |lent| {
+        accept(format, &block, 0, |lent| {
             addressed.encode(&bytes(&zeros), lent)
         });
-        accept(input, &zeros, 0, |lent| {
+        accept(format, &zeros, 0, |lent| {
             addressed.decode(&bytes(&block), lent)
         });
         let mode = CrcMode::Broadcast;
         let broadcast = Channel { mode, ..addressed };
-        refuse(input, information, CRC, |lent| {
+        refuse(format, information, CRC, |lent| {
             broadcast.decode(&bytes(&block), lent)
         });
         let mut answers = Answers::default();

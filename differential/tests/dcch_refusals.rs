@@ -1,12 +1,13 @@
 //! What DCCH's calls refuse: lengths in the order of the arguments, then bytes that are no bit; and
 //! that they then write nothing.
-use differential::blocks::{KINDS, bytes};
+use differential::blocks::{Kind, bytes};
 use differential::channel::{Channel, FORMATS};
-use differential::phy::dcch::{self, BlockFormat};
+use differential::compare::dcch;
+use differential::phy::dcch::BlockFormat;
 use differential::port::Block;
 use differential::prng::Prng;
 use differential::tally::Tally;
-use differential::verdict::{SYMBOL, error, length, refuse};
+use differential::verdict::{SYMBOL, length};
 
 #[derive(Clone, Copy, Debug, PartialEq, Eq)]
 enum Call {
@@ -23,22 +24,11 @@ impl Call {
             Call::Decode => (coded, information),
         }
     }
-    fn refuse(self, channel: Channel, input: &[u8], output: usize, wanted: Block) {
-        let about = || format!("{self:?} {channel:?}, {output} for {input:?}");
-        refuse(about, output, wanted, |lent| match self {
-            Call::Encode => channel.encode(input, lent),
-            Call::Decode => channel.decode(input, lent),
-        });
-    }
-    /// The Rust's refusal of an input of that length.
-    fn rust(self, channel: Channel, input: usize) -> Option<Block> {
-        let Channel { format, dvcc, mode } = channel;
-        let bits = vec![false; input];
+    fn compare(self, channel: Channel, input: &[u8], output: usize) -> Block {
         match self {
-            Call::Encode => dcch::encode(format, &bits, dvcc, mode).err(),
-            Call::Decode => dcch::decode(format, &bits, dvcc, mode).err(),
+            Call::Encode => dcch::encode(channel, input, output),
+            Call::Decode => dcch::decode(channel, input, output),
         }
-        .map(error)
     }
     /// Bits, no bits at all, and one that is none at the end: the length is refused every time.
     /// Returns the calls.
@@ -56,7 +46,7 @@ impl Call {
             *last = 2;
         }
         for bytes in [vec![0; input], vec![255; input], last_wrong] {
-            self.refuse(channel, &bytes, output, wanted);
+            assert_eq!(self.compare(channel, &bytes, output), wanted);
         }
         3
     }
@@ -81,8 +71,8 @@ impl Call {
         let mut calls = 0;
         for input in (0..right_input + 300).filter(|input| *input != right_input) {
             let channel = Channel::draw(p, format);
-            let wanted = self.rust(channel, input).expect("a wrong length");
-            self.refuse(channel, &vec![0; input], right_output, wanted);
+            let answer = self.compare(channel, &vec![0; input], right_output);
+            assert_eq!(answer.refusal, 1);
             calls += 1;
         }
         tally.part(&format!("{self:?} {format:?}, as the Rust refuses"), calls);
@@ -95,17 +85,18 @@ impl Call {
                 let channel = Channel::draw(p, format);
                 let mut input = self.input(p, channel);
                 input[place] = wrong;
-                self.refuse(channel, &input, right_output, SYMBOL);
+                assert_eq!(self.compare(channel, &input, right_output), SYMBOL);
             }
         }
         for wrong in 2..=u8::MAX {
             let channel = Channel::draw(p, format);
-            self.refuse(channel, &vec![wrong; right_input], right_output, SYMBOL);
+            let input = vec![wrong; right_input];
+            assert_eq!(self.compare(channel, &input, right_output), SYMBOL);
         }
         254 * (right_input as u64 + 1)
     }
     fn input(self, p: &mut Prng, channel: Channel) -> Vec<u8> {
-        let kind = KINDS[p.below(KINDS.len())];
+        let kind = Kind::any(p);
         match self {
             Call::Encode => bytes(&channel.information(p)),
             Call::Decode => bytes(&channel.block(p, kind)),

@@ -1,7 +1,8 @@
 //! The soft decoder of DCCH: against the Rust on reliabilities of every size, and against the word
 //! of least cost where they are whole numbers.
-use differential::blocks::{KINDS, code, flip};
+use differential::blocks::{KINDS, code};
 use differential::channel::{Channel, FORMATS};
+use differential::compare::dcch::{decode_soft, mixture, overflows_late, soft_channel};
 use differential::phy::dcch::{BlockFormat, CrcMode, DecodedBlock, probe};
 use differential::prng::Prng;
 use differential::reference::words;
@@ -10,25 +11,9 @@ use differential::reliabilities::{ALL_SIZES, Sizes};
 use differential::tally::Tally;
 use differential::verdict::{Answers, CRC, accept, refuse};
 
-/// Compares one call; returns what the Rust accepted.
-fn decode(answers: &mut Answers, channel: Channel, block: &[f64]) -> Option<DecodedBlock> {
-    let Channel { format, dvcc, mode } = channel;
-    let rust = probe::decode_soft(format, block, dvcc, mode);
-    let input = || format!("{channel:?} {block:?}");
-    answers.compare(input, format, &rust, |lent| {
-        channel.decode_soft(block, lent)
-    });
-    rust.ok()
-}
-
-/// Any channel, or half of the time the one that accepts zeros, as an overflow gives.
-fn channel(p: &mut Prng, format: BlockFormat) -> Channel {
-    let drawn = Channel::draw(p, format);
-    if p.bit() {
-        drawn
-    } else {
-        Channel::zero(format)
-    }
+fn decode(answers: &mut Answers, channel: Channel, block: &[f64]) {
+    let room = channel.format.information_bits();
+    answers.count(decode_soft(channel, block, room));
 }
 
 #[test]
@@ -39,7 +24,7 @@ fn every_size() {
         for format in FORMATS {
             let mut answers = Answers::default();
             for kind in KINDS.into_iter().flat_map(|kind| [kind; 400]) {
-                let channel = channel(&mut p, format);
+                let channel = soft_channel(&mut p, format);
                 let block = sizes.block(&mut p, channel, kind);
                 decode(&mut answers, channel, &block);
             }
@@ -59,11 +44,8 @@ fn mixtures() {
     for format in FORMATS {
         let mut answers = Answers::default();
         for kind in KINDS.into_iter().flat_map(|kind| [kind; 700]) {
-            let channel = channel(&mut p, format);
-            let bits = channel.block(&mut p, kind);
-            let few = 1 + p.below(ALL_SIZES.len());
-            let mix = |bit| ALL_SIZES[p.below(few)].draw(&mut p, &[bit])[0];
-            let block: Vec<f64> = bits.into_iter().map(mix).collect();
+            let channel = soft_channel(&mut p, format);
+            let block = mixture(&mut p, channel, kind);
             decode(&mut answers, channel, &block);
         }
         assert!(answers.words > 200 && answers.crc > 200);
@@ -71,20 +53,6 @@ fn mixtures() {
         tally.part(&what, answers.calls());
     }
     tally.end();
-}
-
-/// Information that is a multiple of the polynomial and then zero, so that its checksum is zero
-/// too; and the first place after it.
-fn early(p: &mut Prng, format: BlockFormat) -> (Vec<bool>, usize) {
-    let mut information = vec![false; format.information_bits()];
-    let factor = 1 + p.below(40);
-    let at = p.below(information.len() - factor - 16);
-    for place in (at..at + factor).filter(|_| p.bit()) {
-        for term in [0, 4, 11, 16] {
-            information[place + term] ^= true;
-        }
-    }
-    (information, at + factor + 16)
 }
 
 /// The sums overflow only after the word's last one: what was found before stands.
@@ -97,16 +65,13 @@ fn late_overflow() {
         let mut overflows = 0;
         for _ in 0..3000 {
             let channel = Channel::zero(format);
-            let (information, end) = early(&mut p, format);
-            let mut coded = code(0, &channel.word(&information));
-            let flips = p.below(30);
-            flip(&mut p, &mut coded[2 * end + 10..], flips);
-            let block = channel.wire(&Sizes::Huge.draw(&mut p, &coded));
-            let found = decode(&mut answers, channel, &block);
+            let block = overflows_late(&mut p, format);
+            decode(&mut answers, channel, &block);
+            let found = probe::decode_soft(format, &block, channel.dvcc, channel.mode);
             // Two wrong bits of these sizes already cost more than the largest number.
             let beyond = |block: &DecodedBlock| block.corrected_coded_bits > 1;
             let ones = |block: &DecodedBlock| block.information.contains(&true);
-            overflows += u64::from(found.is_some_and(|block| beyond(&block) && ones(&block)));
+            overflows += u64::from(found.is_ok_and(|block| beyond(&block) && ones(&block)));
         }
         assert!(overflows > 500);
         let what = format!("{format:?}, {overflows} overflows, {}", answers.text());
@@ -134,7 +99,7 @@ fn weigh(channel: Channel, block: &[f64]) -> bool {
         .filter(|(bit, value)| **bit != (**value < 0))
         .count();
     let information = &word[..channel.format.information_bits()];
-    let input = || format!("{channel:?} {block:?}");
+    let input = (channel, block);
     let port = |lent: &mut [u8]| channel.decode_soft(block, lent);
     let right = word == channel.word(information);
     if right {
@@ -213,7 +178,7 @@ fn corners() {
             ([-1e308, 1e308], negative / 2),
         ] {
             let block: Vec<f64> = (0..coded).map(|place| values[place % 2]).collect();
-            let input = || format!("{format:?} {values:?}");
+            let input = (format, values);
             accept(input, &zeros, corrected, |lent| {
                 addressed.decode_soft(&block, lent)
             });

@@ -1,36 +1,18 @@
 //! What the soft decoder of DCCH refuses before any search: lengths in the order of the arguments,
 //! then a number that is not finite; and that it then writes nothing.
-use differential::blocks::{KINDS, Kind};
+use differential::blocks::Kind;
 use differential::channel::{Channel, FORMATS};
-use differential::phy::dcch::{BlockFormat, probe};
-use differential::port::Block;
+use differential::compare::dcch::{decode_soft, not_finite};
+use differential::phy::dcch::BlockFormat;
 use differential::prng::Prng;
 use differential::reliabilities::{ALL_SIZES, Sizes};
 use differential::tally::Tally;
-use differential::verdict::{CRC, error, length, refuse};
-
-/// The Rust's refusal.
-fn rust(channel: Channel, block: &[f64]) -> Option<Block> {
-    let Channel { format, dvcc, mode } = channel;
-    probe::decode_soft(format, block, dvcc, mode)
-        .err()
-        .map(error)
-}
-
-/// Both infinities and NaNs, quiet and signalling, of either sign.
-fn not_finite() -> Vec<f64> {
-    let bits = [0x7ff0 << 48, 0x7ff8 << 48, 0x7ff0 << 48 | 1, (1 << 63) - 1];
-    let either = bits.into_iter().flat_map(|bits| [bits, bits | 1 << 63]);
-    either.map(f64::from_bits).collect()
-}
+use differential::verdict::{CRC, length};
 
 fn refuse_one(channel: Channel, mut block: Vec<f64>, place: usize, wrong: f64) {
     block[place] = wrong;
-    assert_eq!(rust(channel, &block), Some(CRC));
-    let input = || format!("{channel:?} {block:?}");
-    refuse(input, channel.format.information_bits(), CRC, |lent| {
-        channel.decode_soft(&block, lent)
-    });
+    let room = channel.format.information_bits();
+    assert_eq!(decode_soft(channel, &block, room), CRC);
 }
 
 /// One at each place of a block that is right but for it, and of any other.
@@ -46,7 +28,7 @@ fn one_not_finite() {
                 let right = Sizes::Uniform.block(&mut p, channel, Kind::Clean);
                 refuse_one(channel, right, place, wrong);
                 let sizes = ALL_SIZES[p.below(ALL_SIZES.len())];
-                let kind = KINDS[p.below(KINDS.len())];
+                let kind = Kind::any(&mut p);
                 let other = sizes.block(&mut p, channel, kind);
                 refuse_one(channel, other, place, wrong);
                 calls += 2;
@@ -69,13 +51,7 @@ fn refuse_lengths(p: &mut Prng, format: BlockFormat, block: usize, information: 
     let channel = Channel::draw(p, format);
     for value in [0.0, f64::NAN] {
         let block = vec![value; block];
-        if block.len() != format.encoded_bits() {
-            assert_eq!(rust(channel, &block), Some(wanted));
-        }
-        let input = || format!("{channel:?}, {information} for {} of {value}", block.len());
-        refuse(input, information, wanted, |lent| {
-            channel.decode_soft(&block, lent)
-        });
+        assert_eq!(decode_soft(channel, &block, information), wanted);
     }
     2
 }

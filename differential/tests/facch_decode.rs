@@ -1,40 +1,14 @@
 //! FACCH words decoded by the port and by the Rust, with all bits, half of them or any number
 //! observed, beside an independent count of the nearest words.
 use differential::blocks::bytes;
-use differential::phy::facch::{self, CODED_BITS, FacchError, FacchWord, MESSAGE_BITS, WordHalf};
-use differential::port_facch::{Word, decode, decode_erased};
+use differential::compare::facch::{MESSAGES, Observed, Sent, WORD_BITS, between, flip, half};
+use differential::compare::facch::{decode, decode_erased, keep, only, received, sent, shuffled};
+use differential::phy::facch::{self, CODED_BITS, WordHalf};
+use differential::port_facch::Word;
+use differential::port_sacch::unpacked;
 use differential::prng::Prng;
-use differential::reference_facch::{independent, nearest};
+use differential::reference_facch::independent;
 use differential::tally::{Tally, scaled};
-
-const MESSAGES: u64 = 1 << MESSAGE_BITS;
-/// Below as many observed bits the Rust does not search.
-const WORD_BITS: usize = 65;
-
-fn bits(message: u64) -> [bool; MESSAGE_BITS] {
-    std::array::from_fn(|place| message >> (MESSAGE_BITS - 1 - place) & 1 != 0)
-}
-
-fn number(bits: &[bool]) -> u64 {
-    bits.iter()
-        .fold(0, |number, bit| number * 2 + u64::from(*bit))
-}
-
-/// The Rust's answer as the port gives it.
-fn wanted(rust: &Result<FacchWord, FacchError>) -> Word {
-    match rust {
-        Ok(word) => Word {
-            continuation: word.continuation,
-            message: number(&word.message),
-            corrected: word.corrected_coded_bits,
-            observed: word.observed_coded_bits as u16,
-            ..Word::refused(0)
-        },
-        Err(FacchError::InsufficientObservations) => Word::refused(4),
-        Err(FacchError::Ambiguous) => Word::refused(5),
-        Err(FacchError::Crc) => Word::refused(3),
-    }
-}
 
 /// How often each answer came.
 #[derive(Default)]
@@ -58,80 +32,14 @@ impl Answers {
         } = self;
         format!("{words} words, {crc} checksum, {few} too few, {ambiguous} ambiguous")
     }
-    /// Compares one call of either decoder, and the Rust with the independent count.
     #[track_caller]
-    fn compare(&mut self, coded: &[Option<bool>; CODED_BITS], dvcc: u8) {
-        let received = coded.map(|bit| bit.map_or(2, u8::from));
-        let rust = facch::decode_erased(coded, dvcc);
-        assert_eq!(
-            decode_erased(&received, dvcc),
-            wanted(&rust),
-            "{received:?}"
-        );
-        if received.iter().all(|byte| *byte < 2) {
-            let whole = coded.map(|bit| bit.expect("observed"));
-            assert_eq!(facch::decode(&whole, dvcc), rust);
-            assert_eq!(decode(&received, dvcc), wanted(&rust), "{received:?}");
+    fn compare(&mut self, coded: &Observed, dvcc: u8) {
+        match decode_erased(&received(coded), dvcc).refusal {
+            0 => self.words += 1,
+            3 => self.crc += 1,
+            4 => self.few += 1,
+            _ => self.ambiguous += 1,
         }
-        let observed = received.iter().filter(|byte| **byte < 2).count();
-        if observed >= WORD_BITS {
-            let (least, count) = nearest(&received);
-            assert_eq!(
-                rust == Err(FacchError::Ambiguous),
-                count > 1,
-                "{received:?}"
-            );
-            if let Ok(word) = &rust {
-                assert_eq!(u32::from(word.corrected_coded_bits), least);
-            }
-        }
-        match rust {
-            Ok(_) => self.words += 1,
-            Err(FacchError::Crc) => self.crc += 1,
-            Err(FacchError::InsufficientObservations) => self.few += 1,
-            Err(FacchError::Ambiguous) => self.ambiguous += 1,
-        }
-    }
-}
-
-struct Sent {
-    dvcc: u8,
-    coded: [bool; CODED_BITS],
-}
-
-fn sent(p: &mut Prng) -> Sent {
-    let dvcc = p.byte();
-    let coded = facch::encode(p.bit(), &bits(p.draw() % MESSAGES), dvcc);
-    Sent { dvcc, coded }
-}
-
-/// All places in a random order.
-fn shuffled(p: &mut Prng) -> Vec<usize> {
-    let mut order: Vec<usize> = (0..CODED_BITS).collect();
-    for at in 0..CODED_BITS {
-        let other = at + p.below(CODED_BITS - at);
-        order.swap(at, other);
-    }
-    order
-}
-
-fn only(coded: &[bool; CODED_BITS], places: &[usize]) -> [Option<bool>; CODED_BITS] {
-    let mut observed = [None; CODED_BITS];
-    for place in places {
-        observed[*place] = Some(coded[*place]);
-    }
-    observed
-}
-
-/// Keeps that many places, chosen at random.
-fn keep(p: &mut Prng, coded: &[bool; CODED_BITS], kept: usize) -> [Option<bool>; CODED_BITS] {
-    only(coded, &shuffled(p)[..kept])
-}
-
-fn flip(p: &mut Prng, coded: &mut [bool; CODED_BITS], flips: usize) {
-    for _ in 0..flips {
-        let place = p.below(CODED_BITS);
-        coded[place] ^= true;
     }
 }
 
@@ -170,14 +78,13 @@ fn whole_words() {
 fn halves() {
     let mut p = Prng(0xfad1);
     let mut tally = Tally::new("FACCH decode, one half");
-    for (half, name) in [(WordHalf::Start, "start"), (WordHalf::End, "end")] {
+    for (which, name) in [(WordHalf::Start, "start"), (WordHalf::End, "end")] {
         for flips in [0, 1, 2, 4, 8] {
             let mut answers = Answers::default();
             for _ in 0..scaled(60) {
                 let Sent { dvcc, mut coded } = sent(&mut p);
                 flip(&mut p, &mut coded, flips);
-                let slot = facch::interleave(&coded, &coded);
-                answers.compare(&facch::observe_half(&slot, half), dvcc);
+                answers.compare(&half(&coded, which), dvcc);
             }
             // Two words differ in six places or more of either half.
             assert!(flips > 2 || answers.words == answers.calls());
@@ -250,15 +157,8 @@ fn between_two() {
     let mut tally = Tally::new("FACCH decode, between two words");
     let mut answers = Answers::default();
     for _ in 0..scaled(200) {
-        let (one, other) = (sent(&mut p), sent(&mut p));
-        let mut coded = one.coded;
-        let apart: Vec<usize> = (0..CODED_BITS)
-            .filter(|place| one.coded[*place] != other.coded[*place])
-            .collect();
-        for place in &apart[..apart.len() / 2] {
-            coded[*place] ^= true;
-        }
-        answers.compare(&coded.map(Some), one.dvcc);
+        let Sent { dvcc, coded } = between(&mut p);
+        answers.compare(&coded.map(Some), dvcc);
     }
     assert!(answers.ambiguous > 0);
     tally.part(&answers.text(), answers.calls());
@@ -299,18 +199,14 @@ fn corners() {
     }
     for len in (0..=300).filter(|len| *len != CODED_BITS) {
         for byte in [0, 2, 3] {
-            let wanted = Word {
-                expected: CODED_BITS,
-                actual: len,
-                ..Word::refused(1)
-            };
+            let wanted = Word::length(CODED_BITS, len);
             assert_eq!(decode(&vec![byte; len], 0), wanted);
             assert_eq!(decode_erased(&vec![byte; len], 0), wanted);
             calls += 2;
         }
     }
     tally.part("zeros, few, bytes that are no bits, lengths", calls);
-    let coded = bytes(&facch::encode(true, &bits(MESSAGES - 1), 255));
+    let coded = bytes(&facch::encode(true, &unpacked(MESSAGES - 1), 255));
     let full = decode(&coded, 255);
     assert_eq!((full.refusal, full.message), (0, MESSAGES - 1));
     tally.part("ones", 1);

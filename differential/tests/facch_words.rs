@@ -1,24 +1,13 @@
 //! FACCH words coded, and put into slots and taken out, by the port and by the Rust.
 use differential::blocks::bytes;
-use differential::calls::{refuses, writes};
-use differential::phy::facch::{self, CODED_BITS, MESSAGE_BITS, WordHalf};
-use differential::port_facch::observe;
-use differential::port_facch::{SYMBOL, Written, deinterleave, encode, interleave, length};
+use differential::compare::facch::{MESSAGES, deinterleave, encode, interleave, observe};
+use differential::phy::facch::{CODED_BITS, MESSAGE_BITS};
+use differential::port_facch::{SYMBOL, Written, length};
 use differential::prng::Prng;
 use differential::tally::Tally;
 
-const MESSAGES: u64 = 1 << MESSAGE_BITS;
-
-/// The message's bits, the first highest.
-fn bits(message: u64) -> [bool; MESSAGE_BITS] {
-    std::array::from_fn(|place| message >> (MESSAGE_BITS - 1 - place) & 1 != 0)
-}
-
 fn compare(continuation: bool, message: u64, dvcc: u8) {
-    let coded = facch::encode(continuation, &bits(message), dvcc);
-    writes(&bytes(&coded), |lent| {
-        encode(continuation, message, dvcc, lent)
-    });
+    encode(continuation, message, dvcc, CODED_BITS);
 }
 
 #[test]
@@ -52,9 +41,8 @@ fn encode_refused() {
     let mut calls = 0;
     for room in (0..=300).filter(|room| *room != CODED_BITS) {
         for message in [p.draw() % MESSAGES, MESSAGES, u64::MAX] {
-            refuses(room, length(CODED_BITS, room), |lent| {
-                encode(p.bit(), message, p.byte(), lent)
-            });
+            let answer = encode(p.bit(), message, p.byte(), room);
+            assert_eq!(answer, length(CODED_BITS, room));
             calls += 1;
         }
     }
@@ -65,9 +53,7 @@ fn encode_refused() {
         .chain(above)
         .collect();
     for message in &large {
-        refuses(CODED_BITS, SYMBOL, |lent| {
-            encode(p.bit(), *message, p.byte(), lent)
-        });
+        assert_eq!(encode(p.bit(), *message, p.byte(), CODED_BITS), SYMBOL);
     }
     tally.part("messages of more bits", large.len() as u64);
     tally.end();
@@ -84,16 +70,10 @@ fn single(place: usize) -> [bool; CODED_BITS] {
 /// Every call on slots, on two words or slots.
 fn compare_slots(a: &[bool; CODED_BITS], b: &[bool; CODED_BITS]) {
     let (x, y) = (bytes(a), bytes(b));
-    writes(&bytes(&facch::interleave(a, b)), |lent| {
-        interleave(&x, &y, lent)
-    });
-    writes(&bytes(&facch::deinterleave(a, b)), |lent| {
-        deinterleave(&x, &y, lent)
-    });
-    for (end, half) in [(false, WordHalf::Start), (true, WordHalf::End)] {
-        let observed = facch::observe_half(a, half).map(|bit| bit.map_or(2, u8::from));
-        writes(&observed, |lent| observe(end, &x, lent));
-    }
+    interleave(&x, &y, CODED_BITS);
+    deinterleave(&x, &y, CODED_BITS);
+    observe(false, &x, CODED_BITS);
+    observe(true, &x, CODED_BITS);
 }
 
 #[test]
@@ -131,12 +111,12 @@ fn slots_refused() {
                 let x: Vec<u8> = (0..a).map(|at| if at + 1 == a { 2 } else { 0 }).collect();
                 let y = vec![1; b];
                 if let Some(wanted) = first_wrong(&[a, b, room]) {
-                    refuses(room, wanted, |lent| interleave(&x, &y, lent));
-                    refuses(room, wanted, |lent| deinterleave(&x, &y, lent));
+                    assert_eq!(interleave(&x, &y, room), wanted);
+                    assert_eq!(deinterleave(&x, &y, room), wanted);
                     calls += 2;
                 }
                 if let Some(wanted) = first_wrong(&[a, room]) {
-                    refuses(room, wanted, |lent| observe(p.bit(), &x, lent));
+                    assert_eq!(observe(p.bit(), &x, room), wanted);
                     calls += 1;
                 }
             }
@@ -148,12 +128,12 @@ fn slots_refused() {
         for wrong in [2, 3, 128, 255] {
             let (mut x, y) = (bytes(&word(&mut p)), bytes(&word(&mut p)));
             x[place] = wrong;
-            refuses(CODED_BITS, SYMBOL, |lent| interleave(&x, &y, lent));
-            refuses(CODED_BITS, SYMBOL, |lent| interleave(&y, &x, lent));
-            refuses(CODED_BITS, SYMBOL, |lent| deinterleave(&x, &y, lent));
-            refuses(CODED_BITS, SYMBOL, |lent| deinterleave(&y, &x, lent));
-            refuses(CODED_BITS, SYMBOL, |lent| observe(false, &x, lent));
-            refuses(CODED_BITS, SYMBOL, |lent| observe(true, &x, lent));
+            assert_eq!(interleave(&x, &y, CODED_BITS), SYMBOL);
+            assert_eq!(interleave(&y, &x, CODED_BITS), SYMBOL);
+            assert_eq!(deinterleave(&x, &y, CODED_BITS), SYMBOL);
+            assert_eq!(deinterleave(&y, &x, CODED_BITS), SYMBOL);
+            assert_eq!(observe(false, &x, CODED_BITS), SYMBOL);
+            assert_eq!(observe(true, &x, CODED_BITS), SYMBOL);
             calls += 6;
         }
     }

@@ -1,29 +1,16 @@
 //! The search with free ends against a count of the nearest words. What SACCH's decoder makes of it
 //! is compared with the Rust in sacch_decode.rs.
-use differential::blocks::{Ends, KINDS, Kind, bytes, text};
-use differential::lent::Lent;
-use differential::port;
+use differential::blocks::{Ends, KINDS, Kind, bytes};
+use differential::compare::search;
 use differential::prng::Prng;
 use differential::reference::{self, Nearest, weight, words};
 use differential::tally::Tally;
 
 const WORD: usize = 66;
 
-/// Compares one call with the count: the word is a nearest one, and the only one if not tied.
-/// Whether it is tied.
+/// Compares one call with the count; returns whether nearest words are tied.
 fn compare(coded: &[bool]) -> bool {
-    let nearest = reference::free(coded);
-    let mut lent = Lent::new(coded.len() / 2);
-    let answer = port::viterbi_free(&bytes(coded), lent.lend());
-    let lengths = (answer.expected, answer.actual);
-    assert_eq!((answer.refusal, lengths), (0, (0, 0)), "{}", text(coded));
-    assert_eq!(u32::from(answer.metric), nearest.metric, "{}", text(coded));
-    assert_eq!(answer.tie, nearest.words > 1, "{}", text(coded));
-    assert!(lent.margins_whole(), "{}", text(coded));
-    assert!(lent.written().iter().all(|bit| *bit < 2), "{}", text(coded));
-    let word: Vec<bool> = lent.written().iter().map(|bit| *bit == 1).collect();
-    assert_eq!(weight(&word, coded), nearest.metric, "{}", text(coded));
-    answer.tie
+    search::free(&bytes(coded), coded.len() / 2).tie
 }
 
 #[test]

@@ -1,16 +1,10 @@
 //! SACCH windows decoded by the port and by the Rust, beside an independent count of the nearest
 //! words.
-use differential::blocks::{Ends, KINDS, bytes, code, flip, text};
-use differential::phy::dcch::{CrcMode, probe};
-use differential::phy::sacch::{self, SacchError};
-use differential::port_sacch::{Word, decode};
+use differential::blocks::{Ends, KINDS, bytes, code, flip};
+use differential::compare::sacch::{CODED, WORD, decode, word};
+use differential::port_sacch::Word;
 use differential::prng::Prng;
-use differential::reference;
 use differential::tally::Tally;
-
-const CODED: usize = 132;
-const WORD: usize = 66;
-const INFORMATION: usize = 50;
 
 /// How often each answer came.
 #[derive(Default)]
@@ -24,24 +18,11 @@ struct Answers {
 impl Answers {
     #[track_caller]
     fn compare(&mut self, coded: &[bool], dvcc: u8) {
-        let rust = sacch::decode(coded.try_into().unwrap(), dvcc);
-        assert_eq!(
-            decode(&bytes(coded), dvcc),
-            Word::of(&rust),
-            "{}",
-            text(coded)
-        );
-        let nearest = reference::free(coded);
-        let ambiguous = rust == Err(SacchError::Ambiguous);
-        assert_eq!(ambiguous, nearest.words > 1, "{}", text(coded));
-        match rust {
-            Ok(word) => {
-                assert_eq!(u32::from(word.corrected_coded_bits), nearest.metric);
-                self.words += 1;
-            }
-            Err(SacchError::Ambiguous) => self.ambiguous += 1,
-            Err(SacchError::Reserved) => self.reserved += 1,
-            Err(SacchError::Crc) => self.crc += 1,
+        match decode(&bytes(coded), dvcc).refusal {
+            0 => self.words += 1,
+            5 => self.ambiguous += 1,
+            6 => self.reserved += 1,
+            _ => self.crc += 1,
         }
     }
     fn calls(&self) -> u64 {
@@ -56,19 +37,6 @@ impl Answers {
         } = self;
         format!("{words} words, {ambiguous} ambiguous, {reserved} reserved, {crc} checksum")
     }
-}
-
-fn checksum_bits(information: &[bool], dvcc: u8) -> Vec<bool> {
-    let value = probe::checksum(information, dvcc, CrcMode::Addressed);
-    (0..16).rev().map(|bit| value >> bit & 1 != 0).collect()
-}
-
-/// A word with its checksum, its second bit as given.
-fn word(p: &mut Prng, reserved: bool, dvcc: u8) -> Vec<bool> {
-    let mut word = p.bits(INFORMATION);
-    word[1] = reserved;
-    word.extend(checksum_bits(&word, dvcc));
-    word
 }
 
 /// Words as sent from any memory, with wrong bits anywhere.

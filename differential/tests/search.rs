@@ -1,31 +1,14 @@
 //! The bare search of the DCCH code: word and metric against the Rust's, its tie against a count
 //! of the nearest words.
-use differential::blocks::{Ends, KINDS, Kind, bytes, text};
-use differential::lent::Lent;
-use differential::phy::dcch::probe;
-use differential::port::{self, Search};
+use differential::blocks::{Ends, KINDS, Kind, bytes};
+use differential::compare::search;
 use differential::prng::Prng;
 use differential::reference::{self, Nearest, disagreements, words};
 use differential::tally::Tally;
 
 /// Compares one call; returns whether nearest words are tied.
 fn compare(coded: &[bool]) -> bool {
-    let (word, metric) = probe::viterbi(coded);
-    let nearest = reference::ended(coded);
-    assert_eq!(u32::from(metric), nearest.metric, "{}", text(coded));
-    let wanted = Search {
-        refusal: 0,
-        expected: 0,
-        actual: 0,
-        metric,
-        tie: nearest.words > 1,
-    };
-    let mut lent = Lent::new(coded.len() / 2);
-    let answer = port::viterbi(&bytes(coded), lent.lend());
-    assert_eq!(answer, wanted, "{}", text(coded));
-    assert_eq!(lent.written(), bytes(&word), "{}", text(coded));
-    assert!(lent.margins_whole(), "{}", text(coded));
-    wanted.tie
+    search::ended(&bytes(coded), coded.len() / 2).tie
 }
 
 fn compare_kind(p: &mut Prng, tally: &mut Tally, kind: Kind, steps: usize, rounds: u64) {

@@ -1,62 +1,21 @@
 //! What both searches refuse: lengths, then bytes that are no bit; and that they then write
 //! nothing.
 use differential::blocks::{Ends, Kind, bytes};
-use differential::lent::Lent;
-use differential::port::{self, Search};
+use differential::compare::search::{SYMBOL, ended, free, refusal};
+use differential::port::Search;
 use differential::prng::Prng;
 use differential::tally::Tally;
 
-type Call = fn(&[u8], &mut [u8]) -> Search;
-
-const CODED: std::ops::RangeInclusive<usize> = 10..=260;
-
-fn length(expected: usize, actual: usize) -> Search {
-    Search {
-        refusal: 1,
-        expected,
-        actual,
-        metric: 0,
-        tie: false,
-    }
-}
-
-const SYMBOL: Search = Search {
-    refusal: 2,
-    expected: 0,
-    actual: 0,
-    metric: 0,
-    tie: false,
-};
-
-/// The refusal of these lengths: the coded block's comes first.
-fn refusal(coded: usize, word: usize) -> Option<Search> {
-    if !CODED.contains(&coded) || coded % 2 == 1 {
-        Some(length(260, coded))
-    } else if word != coded / 2 {
-        Some(length(coded / 2, word))
-    } else {
-        None
-    }
-}
-
-fn refuse(search: Call, coded: &[u8], word: usize, wanted: Search) {
-    let mut lent = Lent::new(word);
-    let answer = search(coded, lent.lend());
-    assert_eq!(answer, wanted, "{} coded bytes, {word} inputs", coded.len());
-    assert!(
-        lent.untouched(),
-        "{} coded bytes, {word} inputs",
-        coded.len()
-    );
-}
+/// Compares a call on a block and room for a word.
+type Call = fn(&[u8], usize) -> Search;
 
 /// Bits, and bytes that are none: the length is refused either way. Returns the calls.
 fn refuse_lengths(search: Call, coded: usize, word: usize) -> u64 {
-    let Some(wanted) = refusal(coded, word) else {
+    if refusal(&vec![0; coded], word).is_none() {
         return 0;
-    };
-    refuse(search, &vec![0; coded], word, wanted);
-    refuse(search, &vec![2; coded], word, wanted);
+    }
+    let bits = search(&vec![0; coded], word);
+    assert_eq!((bits.refusal, search(&vec![2; coded], word)), (1, bits));
     2
 }
 
@@ -95,7 +54,7 @@ fn refuse_bytes(search: Call, p: &mut Prng, steps: usize) -> u64 {
         for wrong in 2..=u8::MAX {
             let mut coded = block.clone();
             coded[place] = wrong;
-            refuse(search, &coded, steps, SYMBOL);
+            assert_eq!(search(&coded, steps), SYMBOL);
         }
     }
     2 * steps as u64 * 254
@@ -110,7 +69,7 @@ fn refuse_all(subject: &'static str, search: Call) {
         tally.part(&format!("wrong bytes among {}", 2 * steps), calls);
     }
     for wrong in 2..=u8::MAX {
-        refuse(search, &[wrong; 260], 130, SYMBOL);
+        assert_eq!(search(&[wrong; 260], 130), SYMBOL);
     }
     tally.part("nothing but wrong bytes", 254);
     tally.end();
@@ -118,10 +77,10 @@ fn refuse_all(subject: &'static str, search: Call) {
 
 #[test]
 fn search() {
-    refuse_all("search, refusals", port::viterbi);
+    refuse_all("search, refusals", ended);
 }
 
 #[test]
 fn free_search() {
-    refuse_all("free search, refusals", port::viterbi_free);
+    refuse_all("free search, refusals", free);
 }

@@ -1,31 +1,22 @@
 //! VSELP frames coded, decoded and put into slots by the port and by the Rust, the decoder beside
 //! an independent count of the nearest words.
-use differential::blocks::{Ends, KINDS, Kind, bytes, flip, text};
-use differential::calls::{FrameAnswers, first_wrong, refuses, writes};
-use differential::lent::Lent;
+use differential::blocks::{Ends, KINDS, Kind, bytes, flip};
+use differential::calls::FrameAnswers;
+use differential::compare::speech::{INPUTS, any_bits, deinterleave, encode, interleave};
+use differential::compare::speech::{decode, placed};
 use differential::phy::speech as rust;
-use differential::phy::speech::{CHANNEL_BITS, CLASS_ONE_BITS, CLASS_TWO_BITS, CrcStatus};
-use differential::phy::speech::{SpeechBits, SpeechError};
-use differential::port_facch::{SYMBOL, length};
+use differential::phy::speech::{CHANNEL_BITS, CLASS_ONE_BITS, CLASS_TWO_BITS, SpeechBits};
+use differential::port_facch::SYMBOL;
 use differential::port_speech::Frame;
-use differential::port_speech::speech as port;
 use differential::prng::Prng;
-use differential::reference;
 use differential::tally::Tally;
 
-const INPUTS: usize = 89;
-
-fn any_bits(p: &mut Prng) -> SpeechBits {
-    SpeechBits {
-        class_one: p.array(),
-        class_two: p.array(),
-    }
-}
-
 fn compare_encode(bits: &SpeechBits) {
-    let wanted = bytes(&rust::encode(bits));
-    let (one, two) = (bytes(&bits.class_one), bytes(&bits.class_two));
-    writes(&wanted, |lent| port::encode(&one, &two, lent));
+    encode(
+        &bytes(&bits.class_one),
+        &bytes(&bits.class_two),
+        CHANNEL_BITS,
+    );
 }
 
 #[test]
@@ -56,52 +47,7 @@ fn encoded() {
 
 #[track_caller]
 fn compare(answers: &mut FrameAnswers, frame: &[bool; CHANNEL_BITS]) {
-    let (mut one, mut two) = (Lent::new(CLASS_ONE_BITS), Lent::new(CLASS_TWO_BITS));
-    let answer = port::decode_candidate(&bytes(frame), one.lend(), two.lend());
-    let candidate = rust::decode_candidate(frame);
-    let nearest = reference::ended(&protected(frame));
-    let ambiguous = candidate == Err(SpeechError::Ambiguous);
-    assert_eq!(ambiguous, nearest.words > 1, "{}", text(frame));
-    match candidate {
-        Ok(candidate) => {
-            let valid = candidate.crc == CrcStatus::Valid;
-            // A failed checksum is a status here; the original's wrapper makes it an error.
-            assert_eq!(rust::decode(frame) == Err(SpeechError::Crc), !valid);
-            let corrected = candidate.frame.corrected_coded_bits;
-            assert_eq!(answer, Frame::accepted(valid, corrected), "{}", text(frame));
-            assert_eq!(u32::from(corrected), nearest.metric);
-            assert_eq!(one.written(), bytes(&candidate.frame.bits.class_one));
-            assert_eq!(two.written(), bytes(&candidate.frame.bits.class_two));
-            assert!(one.margins_whole() && two.margins_whole());
-            *(if valid {
-                &mut answers.valid
-            } else {
-                &mut answers.failed
-            }) += 1;
-        }
-        Err(SpeechError::Ambiguous) => {
-            assert_eq!(answer, Frame::refused(5), "{}", text(frame));
-            assert!(one.untouched() && two.untouched(), "refused but written");
-            answers.ambiguous += 1;
-        }
-        Err(SpeechError::Crc) => panic!("decode_candidate refuses no checksum"),
-    }
-}
-
-fn protected(frame: &[bool]) -> Vec<bool> {
-    (0..CHANNEL_BITS)
-        .filter(|place| !rust::probe::is_class_two(*place))
-        .map(|place| frame[place])
-        .collect()
-}
-
-/// A frame with these protected bits and any class two.
-fn placed(p: &mut Prng, coded: &[bool]) -> [bool; CHANNEL_BITS] {
-    let mut coded = coded.iter();
-    std::array::from_fn(|place| match rust::probe::is_class_two(place) {
-        true => p.bit(),
-        false => *coded.next().expect("178 protected bits"),
-    })
+    answers.count(&decode(&bytes(frame), CLASS_ONE_BITS, CLASS_TWO_BITS));
 }
 
 #[test]
@@ -141,12 +87,8 @@ fn every_kind() {
 
 fn compare_slots(a: &[bool; CHANNEL_BITS], b: &[bool; CHANNEL_BITS]) {
     let (x, y) = (bytes(a), bytes(b));
-    writes(&bytes(&rust::interleave(a, b)), |lent| {
-        port::interleave(&x, &y, lent)
-    });
-    writes(&bytes(&rust::deinterleave(a, b)), |lent| {
-        port::deinterleave(&x, &y, lent)
-    });
+    interleave(&x, &y, CHANNEL_BITS);
+    deinterleave(&x, &y, CHANNEL_BITS);
 }
 
 #[test]
@@ -177,17 +119,9 @@ fn refused() {
         for two in around(82) {
             for room in around(260) {
                 // A byte that is no bit does not come before a length.
-                let (x, y) = (vec![2; one], vec![7; two]);
-                let wanted = first_wrong(&[(77, one), (82, two), (260, room)]);
-                let wanted = wanted.map_or(SYMBOL, |(expected, actual)| length(expected, actual));
-                refuses(room, wanted, |lent| port::encode(&x, &y, lent));
-                let frame = vec![2; room];
-                let (mut a, mut b) = (Lent::new(one), Lent::new(two));
-                let answer = port::decode_candidate(&frame, a.lend(), b.lend());
-                let wrong = first_wrong(&[(260, room), (77, one), (82, two)]);
-                let wanted = wrong.map_or(Frame::refused(2), |(e, n)| Frame::length(e, n));
-                assert_eq!(answer, wanted);
-                assert!(a.untouched() && b.untouched());
+                let coded = encode(&vec![2; one], &vec![7; two], room);
+                let decoded = decode(&vec![2; room], one, two);
+                assert!(coded.refusal > 0 && decoded.refusal > 0);
                 calls += 2;
             }
         }
@@ -196,10 +130,8 @@ fn refused() {
         for b in around(260) {
             for room in around(260) {
                 let (x, y) = (vec![3; a], vec![255; b]);
-                let wanted = first_wrong(&[(260, a), (260, b), (260, room)]);
-                let wanted = wanted.map_or(SYMBOL, |(expected, actual)| length(expected, actual));
-                refuses(room, wanted, |lent| port::interleave(&x, &y, lent));
-                refuses(room, wanted, |lent| port::deinterleave(&x, &y, lent));
+                assert_ne!(interleave(&x, &y, room).refusal, 0);
+                assert_ne!(deinterleave(&x, &y, room).refusal, 0);
                 calls += 2;
             }
         }
@@ -212,20 +144,17 @@ fn refused() {
             let mut frame = bytes(&rust::encode(&bits));
             let whole = frame.clone();
             frame[place] = byte;
-            let (mut a, mut b) = (Lent::new(77), Lent::new(82));
-            let answer = port::decode_candidate(&frame, a.lend(), b.lend());
-            assert_eq!(answer, Frame::refused(2));
-            assert!(a.untouched() && b.untouched());
+            assert_eq!(decode(&frame, 77, 82), Frame::refused(2));
             for (x, y) in [(&frame, &whole), (&whole, &frame)] {
-                refuses(260, SYMBOL, |lent| port::interleave(x, y, lent));
-                refuses(260, SYMBOL, |lent| port::deinterleave(x, y, lent));
+                assert_eq!(interleave(x, y, 260), SYMBOL);
+                assert_eq!(deinterleave(x, y, 260), SYMBOL);
             }
             let (mut one, mut two) = (bytes(&bits.class_one), bytes(&bits.class_two));
             match one.get_mut(place).or(two.get_mut(place.wrapping_sub(77))) {
                 Some(bit) => *bit = byte,
                 None => continue,
             }
-            refuses(260, SYMBOL, |lent| port::encode(&one, &two, lent));
+            assert_eq!(encode(&one, &two, 260), SYMBOL);
             calls += 6;
         }
     }
