@@ -100,6 +100,21 @@ pub fn filled_two(said: Said, one: &[u8], two: &[u8]) -> Told {
     }
 }
 
+// A call that was lent a record, which came back as it was or moved.
+pub fn kept(said: Said, untouched: bool) -> Told {
+    Told {
+        said,
+        rooms: 1,
+        one: Left {
+            length: 0,
+            untouched,
+            ones: 0,
+            sums: 0,
+        },
+        two: no_room(),
+    }
+}
+
 pub fn wrote(answer: Wrote, room: &[u8]) -> Told {
     match answer {
         Wrote::Done => filled(Said::Done, room),
@@ -134,7 +149,7 @@ fn number(said: Said) -> usize {
 }
 
 // Whether all that was lent to be written is as it was.
-fn kept(told: Told) -> bool {
+fn all_untouched(told: Told) -> bool {
     if told.rooms == 0 {
         return false;
     }
@@ -153,7 +168,7 @@ impl Tally {
     }
 
     pub fn with(mut self, told: Told) -> Tally {
-        if kept(told) {
+        if all_untouched(told) {
             self.untouched = wrapping_add_u32(self.untouched, 1);
         }
         let said = told.said;

@@ -12,7 +12,7 @@ pub use answers::Left;
 pub use answers::Said;
 pub use answers::Tally;
 pub use answers::Told;
-pub use answers::left_of;
+pub use answers::kept;
 pub use answers::word;
 pub use answers::wrote;
 pub use dcch_blocks::block_told;

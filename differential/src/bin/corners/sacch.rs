@@ -131,7 +131,7 @@ fn encoders() {
         for at in 0..12 {
             let mut before = of(0, 0, 0);
             before.rows[at] = row;
-            let mut add = |tally: &mut Tally, sent: Sent| {
+            let add = |tally: &mut Tally, sent: Sent| {
                 tally.add((sent.0 > 0).then_some(sent.0), sent.1 == before);
             };
             add(&mut bits, encode_bits(before, 0));
@@ -140,7 +140,8 @@ fn encoders() {
         println!("encode_bits, each row {row}: {}", bits.line());
         println!("encode_word, each row {row}: {}", words.line());
     }
-    println!("reset {}", of(0, 0, 0).text());
+    let (worst, fresh) = (of(255, 12, 65535).text(), of(0, 0, 0).text());
+    println!("reset from {worst}: now {fresh}");
 }
 
 #[derive(Clone, Copy, PartialEq, Eq)]
@@ -332,5 +333,14 @@ fn receivers() {
             println!("each field and row {stored}: {}", tally.line());
         }
     }
-    println!("discontinuity {}", FRESH.text());
+    let worst = Receiver {
+        received: 12,
+        row_cursor: 11,
+        available: 12,
+        phase: 255,
+        lock: Some(255),
+        ..FRESH
+    };
+    let (worst, fresh) = (worst.text(), FRESH.text());
+    println!("discontinuity of {worst}: now {fresh}");
 }
