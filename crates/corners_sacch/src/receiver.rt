@@ -1,4 +1,5 @@
 // Corners of the receiver: State before Symbol, and the record back as it was on either. A rejection moves it.
+use crate::lent::lent;
 use crate::records;
 use corner_calls::Said;
 use corner_calls::Tally;
@@ -12,8 +13,17 @@ use corner_report::text;
 use sacch_decoder::SacchWord;
 use sacch_receiver::Heard;
 use sacch_receiver::Lock;
+use sacch_receiver::Pushed;
+use sacch_receiver::PushedWord;
 use sacch_receiver::ReceiveOutcome;
 use sacch_receiver::SacchReceiver;
+
+// By value, over a lent receiver, and by value for words alone.
+enum Way {
+    Pushed,
+    Lent,
+    Push,
+}
 
 fn of_fields(field_cursor: usize, received: usize) -> SacchReceiver {
     SacchReceiver {
@@ -133,14 +143,23 @@ fn became(before: SacchReceiver, now: SacchReceiver) {
     text(b"\n");
 }
 
-fn pushed_line(before: SacchReceiver, field: u16) {
-    text(b"pushed");
-    to(before, field);
-    let pushed = before.pushed(field, 0);
+fn pushed_told(before: SacchReceiver, pushed: Pushed) {
     let outcome = pushed.outcome;
     let now = pushed.receiver;
     outcome_text(outcome);
     became(before, now);
+}
+
+fn pushed_line(before: SacchReceiver, field: u16) {
+    text(b"pushed");
+    to(before, field);
+    pushed_told(before, before.pushed(field, 0));
+}
+
+fn lent_line(before: SacchReceiver, field: u16) {
+    text(b"push_outcome");
+    to(before, field);
+    pushed_told(before, lent(before, field, 0));
 }
 
 fn push_line(before: SacchReceiver, field: u16) {
@@ -157,6 +176,7 @@ fn push_line(before: SacchReceiver, field: u16) {
 fn states() {
     for k in 0..68usize {
         pushed_line(state(k / 4), field(k % 4));
+        lent_line(state(k / 4), field(k % 4));
         push_line(state(k / 4), field(k % 4));
     }
 }
@@ -190,39 +210,75 @@ fn outcome_said(outcome: ReceiveOutcome) -> Said {
     }
 }
 
-fn stored_case(received: usize, available: usize, at: usize, stored: u16) -> Told {
-    let before = with_stored(received, available, at, stored);
-    let pushed = before.pushed(0, 0);
+fn heard_said(heard: Heard) -> Said {
+    match heard {
+        Heard::Refused(why) => Said::Refused(why),
+        _ => Said::Done,
+    }
+}
+
+fn pushed_kept(before: SacchReceiver, pushed: Pushed) -> Told {
     let outcome = pushed.outcome;
     let now = pushed.receiver;
     kept(outcome_said(outcome), records::same_receiver(before, now))
 }
 
-fn count_stored(received: usize, available: usize, stored: u16) -> Tally {
+fn push_kept(before: SacchReceiver, pushed: PushedWord) -> Told {
+    let heard = pushed.heard;
+    let now = pushed.receiver;
+    kept(heard_said(heard), records::same_receiver(before, now))
+}
+
+// A field 0 to a record, by each call.
+fn stored_case(way: Way, before: SacchReceiver) -> Told {
+    match way {
+        Way::Pushed => pushed_kept(before, before.pushed(0, 0)),
+        Way::Lent => pushed_kept(before, lent(before, 0, 0)),
+        Way::Push => push_kept(before, before.push(0, 0)),
+    }
+}
+
+fn count_stored(way: Way, received: usize, available: usize, stored: u16) -> Tally {
     let mut counts = Tally::new();
     for at in 0..23usize {
-        let more = counts.with(stored_case(received, available, at, stored));
+        let before = with_stored(received, available, at, stored);
+        let more = counts.with(stored_case(way, before));
         counts = more;
     }
     counts
 }
 
-fn each_stored(received: usize, available: usize, stored: u16) {
-    text(b"pushed 0 to");
+fn way_text(way: Way) {
+    match way {
+        Way::Pushed => text(b"pushed"),
+        Way::Lent => text(b"push_outcome"),
+        Way::Push => text(b"push"),
+    }
+}
+
+fn each_stored(way: Way, received: usize, available: usize, stored: u16) {
+    way_text(way);
+    text(b" 0 to");
     part(received as u64);
     text(b" received and");
     part(available as u64);
     text(b" available, each field and row");
     part(stored as u64);
-    tally(count_stored(received, available, stored));
+    tally(count_stored(way, received, available, stored));
+}
+
+fn all_stored(way: Way) {
+    each_stored(way, 0, 0, 4095);
+    each_stored(way, 0, 0, 4096);
+    each_stored(way, 12, 11, 4095);
+    each_stored(way, 12, 11, 4096);
 }
 
 pub fn corners() {
     states();
-    each_stored(0, 0, 4095);
-    each_stored(0, 0, 4096);
-    each_stored(12, 11, 4095);
-    each_stored(12, 11, 4096);
+    all_stored(Way::Pushed);
+    all_stored(Way::Lent);
+    all_stored(Way::Push);
     let worst = of_rows(11, 12, 255, Lock::Locked(255));
     text(b"discontinuity of");
     records::receiver(worst);

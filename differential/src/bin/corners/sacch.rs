@@ -308,30 +308,14 @@ fn receivers() {
             let (outcome, after) = pushed(before, field);
             let (said, now) = (outcome_text(outcome), became(before, after));
             println!("pushed {field} to {to}: {said}, {now}");
+            println!("push_outcome {field} to {to}: {said}, {now}");
             let (heard, after) = push(before, field);
             let now = became(before, after);
             println!("push {field} to {to}: {heard}, {now}");
         }
     }
-    for (received, available) in [(0, 0), (12, 11)] {
-        for stored in [4095, 4096] {
-            let mut tally = Tally::default();
-            for at in 0..23 {
-                let mut before = Receiver {
-                    received,
-                    available,
-                    ..FRESH
-                };
-                match at {
-                    0..12 => before.fields[at] = stored,
-                    _ => before.rows[at - 12] = stored,
-                }
-                let (outcome, after) = pushed(before, 0);
-                tally.add(outcome.err(), before == after);
-            }
-            print!("pushed 0 to {received} received and {available} available, ");
-            println!("each field and row {stored}: {}", tally.line());
-        }
+    for way in ["pushed", "push_outcome", "push"] {
+        stored(way);
     }
     let worst = Receiver {
         received: 12,
@@ -343,4 +327,28 @@ fn receivers() {
     };
     let (worst, fresh) = (worst.text(), FRESH.text());
     println!("discontinuity of {worst}: now {fresh}");
+}
+
+/// Each stored number at its bound and one past, where fields and rows were received and where not.
+fn stored(way: &str) {
+    for (received, available, stored) in
+        [(0, 0, 4095), (0, 0, 4096), (12, 11, 4095), (12, 11, 4096)]
+    {
+        let mut tally = Tally::default();
+        for at in 0..23 {
+            let mut before = Receiver {
+                received,
+                available,
+                ..FRESH
+            };
+            match at {
+                0..12 => before.fields[at] = stored,
+                _ => before.rows[at - 12] = stored,
+            }
+            let (outcome, after) = pushed(before, 0);
+            tally.add(outcome.err(), before == after);
+        }
+        print!("{way} 0 to {received} received and {available} available, ");
+        println!("each field and row {stored}: {}", tally.line());
+    }
 }

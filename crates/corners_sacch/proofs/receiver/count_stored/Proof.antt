@@ -6,16 +6,19 @@ use Rattle.corners_sacch.proofs.receiver.count_stored.Statement.{statem
 use Rattle.corners_sacch.proofs.receiver.count_stored.Tie as tie
 
 abbrev Inv-loop : tie.InvT-loop
-Inv-loop received available stored counts₀ at₀ counts at = at ≤ 23
+Inv-loop way received available stored counts₀ at₀ counts at = at ≤ 23
 
 abbrev μ-loop : tie.MeasureT-loop
-μ-loop received available stored counts₀ at₀ counts at = 23 - at
+μ-loop way received available stored counts₀ at₀ counts at = 23 - at
 
 new-requires : tie.Need-new-requires Inv-loop μ-loop
 new-requires c κs = search needs
 
 loop-holds : tie.Need-loop-holds Inv-loop μ-loop
 loop-holds c = omega arith
+
+with-stored-requires : tie.Need-with-stored-requires Inv-loop μ-loop
+with-stored-requires c κs = search needs
 
 stored-case-requires : tie.Need-stored-case-requires Inv-loop μ-loop
 stored-case-requires c κs = search needs
@@ -43,6 +46,7 @@ count-stored-spec =
     μ-loop
     new-requires
     loop-holds
+    with-stored-requires
     stored-case-requires
     with-requires
     add-at

@@ -29,6 +29,15 @@ state-requires-2 c κs = search needs
 field-requires-2 : tie.Need-field-requires-2 Inv-loop μ-loop
 field-requires-2 c κs = search needs
 
+lent-line-requires : tie.Need-lent-line-requires Inv-loop μ-loop
+lent-line-requires c κs = search needs
+
+state-requires-3 : tie.Need-state-requires-3 Inv-loop μ-loop
+state-requires-3 c κs = search needs
+
+field-requires-3 : tie.Need-field-requires-3 Inv-loop μ-loop
+field-requires-3 c κs = search needs
+
 push-line-requires : tie.Need-push-line-requires Inv-loop μ-loop
 push-line-requires c κs = search needs
 
@@ -56,6 +65,9 @@ states-spec =
     pushed-line-requires
     state-requires-2
     field-requires-2
+    lent-line-requires
+    state-requires-3
+    field-requires-3
     push-line-requires
     add-k
     loop-less
