@@ -1,0 +1,55 @@
+-- `corners_sacch::receiver::count_stored` ends. Assumes nothing.
+use Prim.Native.Nat.{_-_, _≤_}
+use native.Mathlib.Omega.{arith}
+use borrow.Author.Needs.{needs}
+use Rattle.corners_sacch.proofs.receiver.count_stored.Statement.{statement}
+use Rattle.corners_sacch.proofs.receiver.count_stored.Tie as tie
+
+abbrev Inv-loop : tie.InvT-loop
+Inv-loop way received available stored counts₀ at₀ counts at = at ≤ 23
+
+abbrev μ-loop : tie.MeasureT-loop
+μ-loop way received available stored counts₀ at₀ counts at = 23 - at
+
+new-requires : tie.Need-new-requires Inv-loop μ-loop
+new-requires c κs = search needs
+
+loop-holds : tie.Need-loop-holds Inv-loop μ-loop
+loop-holds c = omega arith
+
+with-stored-requires : tie.Need-with-stored-requires Inv-loop μ-loop
+with-stored-requires c κs = search needs
+
+stored-case-requires : tie.Need-stored-case-requires Inv-loop μ-loop
+stored-case-requires c κs = search needs
+
+with-requires : tie.Need-with-requires Inv-loop μ-loop
+with-requires c κs = search needs
+
+add-at : tie.Need-add-at Inv-loop μ-loop
+add-at c = search needs
+
+loop-less : tie.Need-loop-less Inv-loop μ-loop
+loop-less c = search needs
+
+loop-again : tie.Need-loop-again Inv-loop μ-loop
+loop-again c = search needs
+
+returns : tie.Need-returns Inv-loop μ-loop
+returns c = search needs
+
+pub count-stored-spec : {M : Type 1} → statement M
+count-stored-spec =
+    tie.close
+    (tie.spec
+    Inv-loop
+    μ-loop
+    new-requires
+    loop-holds
+    with-stored-requires
+    stored-case-requires
+    with-requires
+    add-at
+    loop-less
+    loop-again
+    returns)
