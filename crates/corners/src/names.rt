@@ -86,7 +86,7 @@ fn acelp_name(call: Call) {
     }
 }
 
-// With the format, half or mode that it is called with. Each function names its own codec's calls and no other: one for all is proved slowly.
+// With the format, half or mode that it is called with. Each function above names its own codec's calls and no other: one for all took twice as long to prove.
 pub fn name(call: Call) {
     dcch_name(call);
     facch_name(call);
