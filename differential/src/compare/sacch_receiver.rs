@@ -118,7 +118,7 @@ pub enum Air {
 }
 
 impl Air {
-    fn heard(self, p: &mut Prng, n: usize, field: u16) -> u16 {
+    pub fn heard(self, p: &mut Prng, n: usize, field: u16) -> u16 {
         let mut wrong = 0;
         for place in 0..12 {
             let hit = match self {
