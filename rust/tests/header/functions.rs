@@ -8,7 +8,7 @@ const HEADER: &str = include_str!("../../../include/bts136.h");
 const FUNCTIONS: &str = include_str!("../../src/sys/functions.rs");
 
 /// Names of functions, each with its answer and its arguments as C writes them.
-type Declarations = BTreeMap<String, String>;
+pub type Declarations = BTreeMap<String, String>;
 
 /// The text with one space wherever there are some, and none at its ends.
 fn squeezed(text: &str) -> String {
@@ -23,7 +23,7 @@ fn parts(statement: &str) -> Option<(&str, &str, &str)> {
     Some((name, answer, arguments.trim()))
 }
 
-fn in_header() -> Declarations {
+pub fn in_header() -> Declarations {
     let comments = HEADER.split("/*").map(|part| match part.split_once("*/") {
         Some((_, after)) => after,
         None => part,

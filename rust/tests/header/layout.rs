@@ -1,35 +1,20 @@
 //! The records and constants of the header are those of the crate: a C program prints sizes,
 //! alignments and places, which are compared with Rust's.
-use crate::c;
+use crate::c::Program;
 use bts136::{Refusal, sys};
-use std::fs;
 use std::mem::offset_of;
-use std::process::Command;
 
 const HEADER: &str = include_str!("../../../include/bts136.h");
 
-/// What the C program is to print, and the lines of C that print it.
-#[derive(Default)]
-struct Layout {
-    wanted: String,
-    source: String,
+fn record<R>(program: &mut Program, name: &str) {
+    program.value(&format!("sizeof({name})"), size_of::<R>());
+    program.value(&format!("_Alignof({name})"), align_of::<R>());
 }
 
-impl Layout {
-    /// A C expression and its value.
-    fn value(&mut self, expression: &str, value: usize) {
-        self.wanted += &format!("{expression} {value}\n");
-        self.source += &format!("    printf(\"{expression} %zu\\n\", (size_t)({expression}));\n");
-    }
-    fn record<R>(&mut self, name: &str) {
-        self.value(&format!("sizeof({name})"), size_of::<R>());
-        self.value(&format!("_Alignof({name})"), align_of::<R>());
-    }
-    /// The last argument is there for its type.
-    fn field<R, F>(&mut self, name: &str, field: &str, offset: usize, _: fn(R) -> F) {
-        self.value(&format!("offsetof({name}, {field})"), offset);
-        self.value(&format!("sizeof((({name} *)0)->{field})"), size_of::<F>());
-    }
+/// The last argument is there for its type.
+fn field<R, F>(program: &mut Program, name: &str, field: &str, offset: usize, _: fn(R) -> F) {
+    program.value(&format!("offsetof({name}, {field})"), offset);
+    program.value(&format!("sizeof((({name} *)0)->{field})"), size_of::<F>());
 }
 
 /// Every record by its C name, and every field of it: with one left out this does not compile.
@@ -37,13 +22,13 @@ macro_rules! records {
     ($($name:literal $record:ident: $($field:ident)*;)*) => {
         const RECORDS: &[&str] = &[$($name),*];
 
-        fn records(layout: &mut Layout) {
+        fn records(program: &mut Program) {
             $(
                 let name = concat!("struct ", $name);
-                layout.record::<sys::$record>(name);
+                record::<sys::$record>(program, name);
                 $(
-                    let offset = offset_of!(sys::$record, $field);
-                    layout.field(name, stringify!($field), offset, |r: sys::$record| r.$field);
+                    let (text, offset) = (stringify!($field), offset_of!(sys::$record, $field));
+                    field(program, name, text, offset, |r: sys::$record| r.$field);
                 )*
                 let _ = |sys::$record { $($field: _),* }: sys::$record| {};
             )*
@@ -68,7 +53,7 @@ records! {
     "bts136_frame" Frame: refusal expected actual valid corrected;
 }
 
-fn constants(layout: &mut Layout) {
+fn constants(program: &mut Program) {
     let length = Refusal::Length {
         expected: 0,
         actual: 0,
@@ -86,7 +71,7 @@ fn constants(layout: &mut Layout) {
         ("BTS136_LINE", Refusal::Line),
         ("BTS136_STATE", Refusal::State),
     ] {
-        layout.value(name, refusal.number().into());
+        program.value(name, refusal.number());
     }
     for (name, value) in [
         ("BTS136_PENDING", sys::PENDING),
@@ -95,31 +80,18 @@ fn constants(layout: &mut Layout) {
         ("BTS136_REFUSED", sys::REFUSED),
         ("BTS136_UNLOCKED", sys::UNLOCKED),
     ] {
-        layout.value(name, value.into());
+        program.value(name, value);
     }
 }
 
 #[test]
 fn c_and_rust_agree() {
-    let mut layout = Layout::default();
-    records(&mut layout);
-    constants(&mut layout);
-    let source = format!(
-        "#include <stdio.h>\n#include \"bts136.h\"\n\nint main(void) {{\n{}    return 0;\n}}\n",
-        layout.source
-    );
-    let Some(compiler) = c::compiler("CC", "cc") else {
-        return;
-    };
-    let (text, program) = (c::scratch("layout.c"), c::scratch("layout"));
-    fs::write(&text, source).unwrap();
-    let mut compile = Command::new(compiler);
-    compile.args(["-std=c11", &c::include(), &text, "-o", &program]);
-    c::run(compile.args(c::WARNINGS));
-    let printed = c::run(&mut Command::new(program));
-    assert_eq!(printed, layout.wanted);
-    let lines = printed.lines().count();
-    println!("layout, total: {lines} sizes, places and numbers compared, 0 differ");
+    let mut program = Program::default();
+    records(&mut program);
+    constants(&mut program);
+    if let Some(count) = program.compare("layout", "") {
+        println!("layout, total: {count} sizes, places and numbers compared, 0 differ");
+    }
 }
 
 #[test]
