@@ -1,5 +1,5 @@
-//! Finds what this project is built from but does not hold: the Rust of 136-bts, the archive of
-//! the port and, where it is installed, libosmocore.
+//! Finds what this project is built from but does not hold: the Rust of 136-bts and, where it is
+//! installed, libosmocore. The archive of the port is found by the crate in `rust/`.
 use std::path::{Path, PathBuf};
 use std::process::{Command, exit};
 use std::{env, fs};
@@ -10,7 +10,7 @@ fn main() {
     println!("cargo:rerun-if-changed=build.rs");
     let out = PathBuf::from(env::var("OUT_DIR").unwrap());
     include_oracle(&out);
-    link_port(&out);
+    tell_archive();
     println!("cargo:rustc-check-cfg=cfg(osmocore)");
     link_osmocore(&out);
 }
@@ -70,21 +70,14 @@ impl Codebook {
 "
 }
 
-/// Links a copy of the archive, so that a test can tell whether it is still the archive.
-fn link_port(out: &Path) {
-    let archive = given("BTS136_LIB", "target/staticlib/libbts136.a");
-    println!("cargo:rerun-if-changed={}", archive.display());
-    let Ok(bytes) = fs::read(&archive) else {
-        stop(format!(
-            "BTS136_LIB: no archive at {}. `rt staticlib bts136` makes it; a relative path counts \
-             from the top of the repository.",
-            archive.display()
-        ))
-    };
-    fs::write(out.join("libbts136.a"), bytes).unwrap();
-    println!("cargo:rustc-env=PORT_ARCHIVE={}", archive.display());
-    println!("cargo:rustc-link-search=native={}", out.display());
-    println!("cargo:rustc-link-lib=static=bts136");
+/// Tells where the archive is and which copy of it is linked, for a test.
+fn tell_archive() {
+    for (name, told) in [
+        ("PORT_ARCHIVE", "DEP_BTS136_ARCHIVE"),
+        ("PORT_LINKED", "DEP_BTS136_LINKED"),
+    ] {
+        println!("cargo:rustc-env={name}={}", env::var(told).unwrap());
+    }
 }
 
 /// Sets the cfg `osmocore` where a program that calls `osmo_conv_decode` links.

@@ -1,13 +1,8 @@
 //! The port's soft decoder of DCCH, as port.rs and channel.rs have the others.
 use crate::channel::Channel;
 use crate::phy::dcch::BlockFormat;
-use crate::port::{Block, block_call, block_calls};
-
-block_calls! {
-    bts136_dcch_decode_soft_forward: f64,
-    bts136_dcch_decode_soft_reverse_normal: f64,
-    bts136_dcch_decode_soft_reverse_abbreviated: f64,
-}
+use crate::port::Block;
+use bindings::flat;
 
 /// A positive reliability favours zero, a negative one favours one.
 pub fn dcch_decode_soft(
@@ -17,12 +12,12 @@ pub fn dcch_decode_soft(
     broadcast: bool,
     information: &mut [u8],
 ) -> Block {
-    let calls = [
-        bts136_dcch_decode_soft_forward,
-        bts136_dcch_decode_soft_reverse_normal,
-        bts136_dcch_decode_soft_reverse_abbreviated,
-    ];
-    block_call(calls, format, block, dvcc, broadcast, information)
+    let call = match format {
+        BlockFormat::Forward => flat::dcch_decode_soft_forward,
+        BlockFormat::ReverseNormal => flat::dcch_decode_soft_reverse_normal,
+        BlockFormat::ReverseAbbreviated => flat::dcch_decode_soft_reverse_abbreviated,
+    };
+    call(block, dvcc, broadcast, information)
 }
 
 impl Channel {

@@ -6,6 +6,7 @@ use differential::calls::FrameAnswers;
 use differential::compare::acelp::{INPUTS, MODES, SPEECH, coded, placed};
 use differential::compare::acelp::{decode, deinterleave, encode, interleave};
 use differential::phy::acelp_cc1::{CHANNEL_BITS, Interleaving};
+use differential::port::Refused;
 use differential::port_facch::SYMBOL;
 use differential::port_speech::Frame;
 use differential::prng::Prng;

@@ -4,6 +4,7 @@ use differential::blocks::bytes;
 use differential::compare::facch::{MESSAGES, Observed, Sent, WORD_BITS, between, flip, half};
 use differential::compare::facch::{decode, decode_erased, keep, only, received, sent, shuffled};
 use differential::phy::facch::{self, CODED_BITS, WordHalf};
+use differential::port::Refused;
 use differential::port_facch::Word;
 use differential::port_sacch::unpacked;
 use differential::prng::Prng;

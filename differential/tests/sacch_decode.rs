@@ -2,6 +2,7 @@
 //! words.
 use differential::blocks::{Ends, KINDS, bytes, code, flip};
 use differential::compare::sacch::{CODED, WORD, decode, word};
+use differential::port::Refused;
 use differential::port_sacch::Word;
 use differential::prng::Prng;
 use differential::tally::Tally;

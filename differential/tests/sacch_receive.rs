@@ -3,6 +3,7 @@
 use differential::compare::sacch_receiver::{Air, Answers, Part, refused_state, spoilt};
 use differential::phy::sacch::probe::state;
 use differential::phy::sacch::{ReceiveOutcome, SacchReceiver};
+use differential::port::Of;
 use differential::port_sacch::{REFUSED, Receiver};
 use differential::prng::Prng;
 use differential::tally::Tally;

@@ -6,6 +6,7 @@ use differential::compare::speech::{INPUTS, any_bits, deinterleave, encode, inte
 use differential::compare::speech::{decode, placed};
 use differential::phy::speech as rust;
 use differential::phy::speech::{CHANNEL_BITS, CLASS_ONE_BITS, CLASS_TWO_BITS, SpeechBits};
+use differential::port::Refused;
 use differential::port_facch::SYMBOL;
 use differential::port_speech::Frame;
 use differential::prng::Prng;

@@ -6,9 +6,10 @@ use crate::calls::{array, lend, refusal, writes};
 use crate::codec::mr74::Parameters;
 use crate::phy::acelp_cc1 as rust;
 use crate::phy::acelp_cc1::{CHANNEL_BITS, DecodedFrame, Interleaving, PROTECTED_BITS};
+use crate::port::{Of, Refused};
 use crate::port_facch::Written;
-use crate::port_speech::Frame;
 use crate::port_speech::acelp as port;
+use crate::port_speech::{Frame, accepted};
 use crate::prng::Prng;
 use crate::reference;
 
@@ -41,7 +42,7 @@ pub fn decode(frame: &[u8], room: usize) -> Frame {
     };
     match decoded {
         Ok(decoded) => {
-            let wanted = Frame::accepted(decoded.crc_valid, decoded.corrected_coded_bits);
+            let wanted = accepted(decoded.crc_valid, decoded.corrected_coded_bits);
             let speech = bytes(&decoded.parameters.codec_bits());
             lend(frame, room, wanted, Some(&speech), call)
         }

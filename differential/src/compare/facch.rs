@@ -3,6 +3,7 @@
 use crate::blocks::bytes;
 use crate::calls::{array, only_bits, refusal, writes};
 use crate::phy::facch::{self, CODED_BITS, FacchError, FacchWord, MESSAGE_BITS, WordHalf};
+use crate::port::Refused;
 use crate::port_facch as port;
 use crate::port_facch::{SYMBOL, Word, Written};
 use crate::port_sacch::{number, unpacked};

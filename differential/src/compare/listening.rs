@@ -4,6 +4,7 @@
 use crate::air::{Given, MESSAGES, any_encoder, any_receiver, any_word};
 use crate::phy::sacch;
 use crate::phy::sacch::probe::{State, encoder_state};
+use crate::port::Of;
 use crate::port_sacch::{Encoder, PENDING, Pushed, REFUSED, Receiver, WORD, unpacked};
 use crate::prng::Prng;
 

@@ -2,6 +2,7 @@
 use crate::calls::{array, refusal};
 use crate::phy::dcch::{CrcMode, probe};
 use crate::phy::sacch::{self, SacchError};
+use crate::port::{Of, Refused};
 use crate::port_sacch as port;
 use crate::port_sacch::Word;
 use crate::prng::Prng;

@@ -2,6 +2,7 @@
 use crate::air::{MESSAGES, any_encoder};
 use crate::phy::sacch::SacchEncoder;
 use crate::phy::sacch::probe::encoder_state;
+use crate::port::Of;
 use crate::port_sacch::{Encoder, Field, Fields, packed, unpacked};
 use crate::prng::Prng;
 

@@ -3,7 +3,9 @@
 use crate::air::{any_encoder, any_receiver, any_word, fields};
 use crate::phy::sacch::SacchReceiver;
 use crate::phy::sacch::probe::{State, receiver, state};
-use crate::port_sacch::{PENDING, Pushed, REFUSED, REJECTED, Receiver, WORD, unpacked};
+use crate::port::Of;
+use crate::port_sacch::{PENDING, Pushed, REFUSED, REJECTED, Receiver, WORD};
+use crate::port_sacch::{nothing, unpacked, word_only};
 use crate::prng::Prng;
 
 /// How often each answer came.
@@ -49,7 +51,7 @@ impl Answers {
     pub fn push(&mut self, rust: &mut SacchReceiver, field: u16, dvcc: u8) {
         let before = Receiver::of(&state(rust));
         let outcome = rust.push_outcome(unpacked(field.into()), dvcc);
-        let wanted = Pushed::of(&outcome, Receiver::of(&state(rust)));
+        let wanted = Pushed::of((&outcome, Receiver::of(&state(rust))));
         both_ways(before, field, dvcc, wanted);
         self.count(&wanted);
     }
@@ -58,7 +60,7 @@ impl Answers {
     fn refuse(&mut self, p: &mut Prng, rust: &SacchReceiver) {
         let port = Receiver::of(&state(rust));
         let field = 4096 + p.below(61440) as u16;
-        let wanted = Pushed::nothing(REFUSED, 2, port);
+        let wanted = nothing(REFUSED, 2, port);
         both_ways(port, field, p.byte(), wanted);
         self.count(&wanted);
     }
@@ -101,7 +103,7 @@ impl Answers {
 pub fn both_ways(port: Receiver, field: u16, dvcc: u8, wanted: Pushed) {
     assert_eq!(port.pushed(field, dvcc), wanted, "{port:?} {field} {dvcc}");
     let word = port.push(field, dvcc);
-    assert_eq!(word, wanted.word_only(), "push: {port:?} {field} {dvcc}");
+    assert_eq!(word, word_only(wanted), "push: {port:?} {field} {dvcc}");
 }
 
 /// What happens to a stream on the way.
@@ -116,7 +118,7 @@ pub enum Air {
 }
 
 impl Air {
-    fn heard(self, p: &mut Prng, n: usize, field: u16) -> u16 {
+    pub fn heard(self, p: &mut Prng, n: usize, field: u16) -> u16 {
         let mut wrong = 0;
         for place in 0..12 {
             let hit = match self {
@@ -165,7 +167,7 @@ pub fn spoilt(p: &mut Prng, part: Part, past: usize) -> Receiver {
 #[track_caller]
 pub fn refused_state(p: &mut Prng, port: Receiver, fields: &[u16]) {
     for field in fields {
-        both_ways(port, *field, p.byte(), Pushed::nothing(REFUSED, 8, port));
+        both_ways(port, *field, p.byte(), nothing(REFUSED, 8, port));
     }
     assert_eq!(port.discontinuity(), Receiver::fresh(), "{port:?}");
 }

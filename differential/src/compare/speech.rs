@@ -6,9 +6,10 @@ use crate::lent::Lent;
 use crate::phy::speech as rust;
 use crate::phy::speech::{CHANNEL_BITS, CLASS_ONE_BITS, CLASS_TWO_BITS, CrcStatus};
 use crate::phy::speech::{SpeechBits, SpeechCandidate, SpeechError};
+use crate::port::{Of, Refused};
 use crate::port_facch::Written;
-use crate::port_speech::Frame;
 use crate::port_speech::speech as port;
+use crate::port_speech::{Frame, accepted};
 use crate::prng::Prng;
 use crate::reference;
 
@@ -42,7 +43,7 @@ pub fn decode(frame: &[u8], one: usize, two: usize) -> Frame {
     match candidate {
         Ok(candidate) => {
             let valid = candidate.crc == CrcStatus::Valid;
-            let wanted = Frame::accepted(valid, candidate.frame.corrected_coded_bits);
+            let wanted = accepted(valid, candidate.frame.corrected_coded_bits);
             assert_eq!(answer, wanted, "{frame:?}");
             let SpeechBits {
                 class_one,

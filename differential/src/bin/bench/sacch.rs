@@ -5,6 +5,7 @@ use differential::air::{MESSAGES, fields};
 use differential::blocks::{Ends, bytes, flip};
 use differential::phy::sacch::probe::{State, receiver};
 use differential::phy::sacch::{self, SacchEncoder};
+use differential::port::Of;
 use differential::port_sacch::{self as port, Encoder, Receiver, unpacked};
 use differential::prng::Prng;
 use differential::timing::Contender;

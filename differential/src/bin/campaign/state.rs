@@ -5,7 +5,7 @@ use std::fs;
 use std::path::Path;
 use std::time::Duration;
 
-const ARCHIVE: &[u8] = include_bytes!(concat!(env!("OUT_DIR"), "/libbts136.a"));
+const ARCHIVE: &[u8] = include_bytes!(env!("PORT_LINKED"));
 const FORM: &str = "campaign 1";
 
 /// The size of the archive that was compared, and its FNV-1a hash of 64 bits.

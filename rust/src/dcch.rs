@@ -1,0 +1,225 @@
+//! DCCH blocks, as `phy::dcch` has them.
+//!
+//! `decode_soft` and `checksum` are public here; `transition` is in [`flat`], since it refuses a
+//! state above 31. An error also has its [`number`](BlockError::number).
+//!
+//! ```
+//! use bts136::dcch::{self, BlockFormat, CrcMode};
+//!
+//! let information = [true; 109];
+//! let mut block = dcch::encode(BlockFormat::Forward, &information, 0x5a, CrcMode::Addressed)?;
+//! block[100] = !block[100];
+//! let decoded = dcch::decode(BlockFormat::Forward, &block, 0x5a, CrcMode::Addressed)?;
+//! assert_eq!(decoded.information, information);
+//! assert_eq!(decoded.corrected_coded_bits, 1);
+//! # Ok::<(), dcch::BlockError>(())
+//! ```
+use crate::bits::{bool_list, byte_list};
+use crate::flat;
+use crate::refusal::{Refusal, never};
+use crate::sys::Block;
+use std::error::Error;
+use std::fmt;
+
+/// The three formats of a block.
+#[derive(Debug, Clone, Copy, PartialEq, Eq)]
+pub enum BlockFormat {
+    /// 260 coded bits, 109 of information.
+    Forward,
+    /// 244 coded bits, 101 of information.
+    ReverseNormal,
+    /// 200 coded bits, 79 of information.
+    ReverseAbbreviated,
+}
+
+impl BlockFormat {
+    /// The bits of a block.
+    pub fn encoded_bits(self) -> usize {
+        match self {
+            Self::Forward => 260,
+            Self::ReverseNormal => 244,
+            Self::ReverseAbbreviated => 200,
+        }
+    }
+    /// The bits of its information.
+    pub fn information_bits(self) -> usize {
+        match self {
+            Self::Forward => 109,
+            Self::ReverseNormal => 101,
+            Self::ReverseAbbreviated => 79,
+        }
+    }
+}
+
+/// Whether the checksum is complemented.
+#[derive(Debug, Clone, Copy, PartialEq, Eq)]
+pub enum CrcMode {
+    /// Complemented.
+    Broadcast,
+    /// As it is.
+    Addressed,
+}
+
+/// Why a block is refused.
+#[derive(Debug, Clone, Copy, PartialEq, Eq)]
+pub enum BlockError {
+    /// What was given has not the format's length.
+    Length {
+        /// The format's length.
+        expected: usize,
+        /// The length that was given.
+        actual: usize,
+    },
+    /// The checksum of the nearest word differs, or a reliability is not finite.
+    Crc,
+}
+
+impl BlockError {
+    /// The number: 1 or 3.
+    pub fn number(self) -> u8 {
+        Refusal::from(self).number()
+    }
+}
+
+impl From<BlockError> for Refusal {
+    fn from(error: BlockError) -> Self {
+        match error {
+            BlockError::Length { expected, actual } => Self::Length { expected, actual },
+            BlockError::Crc => Self::Crc,
+        }
+    }
+}
+
+impl fmt::Display for BlockError {
+    fn fmt(&self, f: &mut fmt::Formatter<'_>) -> fmt::Result {
+        match self {
+            Self::Length { expected, actual } => {
+                write!(f, "DCCH block requires {expected} bits, received {actual}")
+            }
+            Self::Crc => f.write_str("DCCH CRC mismatch"),
+        }
+    }
+}
+
+impl Error for BlockError {}
+
+/// A block decoded.
+#[derive(Debug, Clone, PartialEq, Eq)]
+pub struct DecodedBlock {
+    /// As many bits as the format has.
+    pub information: Vec<bool>,
+    /// How many bits of the block disagree with the word's.
+    pub corrected_coded_bits: u16,
+}
+
+/// What is read, DVCC, Broadcast, what is written.
+type Call<T> = fn(&[T], u8, bool, &mut [u8]) -> Block;
+
+impl BlockFormat {
+    fn encode(self) -> Call<u8> {
+        match self {
+            Self::Forward => flat::dcch_encode_forward,
+            Self::ReverseNormal => flat::dcch_encode_reverse_normal,
+            Self::ReverseAbbreviated => flat::dcch_encode_reverse_abbreviated,
+        }
+    }
+    fn decode(self) -> Call<u8> {
+        match self {
+            Self::Forward => flat::dcch_decode_forward,
+            Self::ReverseNormal => flat::dcch_decode_reverse_normal,
+            Self::ReverseAbbreviated => flat::dcch_decode_reverse_abbreviated,
+        }
+    }
+    fn decode_soft(self) -> Call<f64> {
+        match self {
+            Self::Forward => flat::dcch_decode_soft_forward,
+            Self::ReverseNormal => flat::dcch_decode_soft_reverse_normal,
+            Self::ReverseAbbreviated => flat::dcch_decode_soft_reverse_abbreviated,
+        }
+    }
+}
+
+/// Makes a call that writes so many bits.
+fn call<T>(
+    function: Call<T>,
+    input: &[T],
+    dvcc: u8,
+    mode: CrcMode,
+    room: usize,
+) -> Result<DecodedBlock, BlockError> {
+    let mut written = vec![0; room];
+    let answer = function(input, dvcc, mode == CrcMode::Broadcast, &mut written);
+    match answer.refusal {
+        0 => Ok(DecodedBlock {
+            information: bool_list(&written),
+            corrected_coded_bits: answer.corrected,
+        }),
+        1 => Err(BlockError::Length {
+            expected: answer.expected,
+            actual: answer.actual,
+        }),
+        3 => Err(BlockError::Crc),
+        other => never(other),
+    }
+}
+
+/// Codes the information of a block (IS-136.1-A 4.4.3 and 5.2.6).
+pub fn encode(
+    format: BlockFormat,
+    information: &[bool],
+    dvcc: u8,
+    mode: CrcMode,
+) -> Result<Vec<bool>, BlockError> {
+    let (input, room) = (byte_list(information), format.encoded_bits());
+    let coded = call(format.encode(), &input, dvcc, mode, room)?;
+    Ok(coded.information)
+}
+
+/// Decodes the bits of a block to the nearest word; among words equally near, the one with a zero
+/// at the last place where they differ.
+pub fn decode(
+    format: BlockFormat,
+    encoded: &[bool],
+    dvcc: u8,
+    mode: CrcMode,
+) -> Result<DecodedBlock, BlockError> {
+    let (input, room) = (byte_list(encoded), format.information_bits());
+    call(format.decode(), &input, dvcc, mode, room)
+}
+
+/// Decodes the reliabilities of a block: a positive one favours zero, a negative one favours one,
+/// and zero is an erasure.
+///
+/// ```
+/// use bts136::dcch::{self, BlockFormat, CrcMode};
+///
+/// let unheard = [0.0; 260];
+/// let block = dcch::decode_soft(BlockFormat::Forward, &unheard, 0, CrcMode::Addressed)?;
+/// assert_eq!(block.information, [false; 109]);
+/// # Ok::<(), dcch::BlockError>(())
+/// ```
+pub fn decode_soft(
+    format: BlockFormat,
+    encoded: &[f64],
+    dvcc: u8,
+    mode: CrcMode,
+) -> Result<DecodedBlock, BlockError> {
+    let room = format.information_bits();
+    call(format.decode_soft(), encoded, dvcc, mode, room)
+}
+
+/// The checksum of any number of bits under a colour code.
+///
+/// ```
+/// use bts136::dcch::{CrcMode, checksum};
+///
+/// assert_eq!(checksum(&[], 1, CrcMode::Addressed), 4129);
+/// ```
+pub fn checksum(information: &[bool], dvcc: u8, mode: CrcMode) -> u16 {
+    let broadcast = mode == CrcMode::Broadcast;
+    let answer = flat::checksum(&byte_list(information), dvcc, broadcast);
+    match answer.refusal {
+        0 => answer.value,
+        other => never(other),
+    }
+}

@@ -1,0 +1,5 @@
+//! The header against the archive and the crate.
+mod c;
+mod calls;
+mod functions;
+mod layout;
