@@ -208,9 +208,10 @@ struct bts136_block bts136_dcch_decode_reverse_abbreviated(
     const uint8_t *block, size_t block_len, uint8_t dvcc, bool broadcast, uint8_t *information, size_t information_len);
 
 /*
- * Decodes the 260 reliabilities of a forward block to the word of least cost, in doubles, and writes its 109 bits of information. A
- * positive reliability favours zero, a negative one favours one, and a bit that disagrees costs its size; a zero counts as a received
- * zero in corrected. Refused: 1 for block, then information; 3, at once where a reliability is not finite.
+ * Decodes the 260 reliabilities of a forward block and writes 109 bits of information. A positive reliability favours zero, a negative
+ * one favours one, and a bit that disagrees costs its size. Costs are summed in doubles, in the original's order; where they are whole
+ * numbers of size at most 2^40, nothing rounds and the word is one of least cost, ties as above. In corrected a reliability of zero
+ * counts as a received zero. Refused: 1 for block, then information; 3, at once where a reliability is not finite.
  */
 struct bts136_block bts136_dcch_decode_soft_forward(
     const double *block, size_t block_len, uint8_t dvcc, bool broadcast, uint8_t *information, size_t information_len);

@@ -188,7 +188,10 @@ pub fn decode(
 }
 
 /// Decodes the reliabilities of a block: a positive one favours zero, a negative one favours one,
-/// and zero is an erasure.
+/// and zero is an erasure, which is counted as a received zero.
+///
+/// Costs are summed in doubles, in the original's order. Where they are whole numbers of size at
+/// most 2^40, nothing rounds and the word is one of least cost, ties as in [`decode`].
 ///
 /// ```
 /// use bts136::dcch::{self, BlockFormat, CrcMode};

@@ -6,6 +6,7 @@ mod facch;
 mod sacch_decode;
 mod sacch_states;
 mod speech;
+mod switch;
 
 use bindings::{Refusal, acelp_cc1, dcch as blocks, facch as words, sacch, speech as vselp};
 use std::error::Error;
