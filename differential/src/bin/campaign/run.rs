@@ -42,11 +42,19 @@ impl Run {
             progress: Progress::new(),
         };
         run.save()?;
-        if !fresh {
-            let from = line(&run.state);
-            run.progress.tell(&format!("goes on from {from}"));
-        }
+        run.say_how(fresh);
         Ok(run)
+    }
+    /// A run that is not fresh goes on, or has nothing left to do.
+    fn say_how(&self, fresh: bool) {
+        let (from, state) = (line(&self.state), self.plan.state.display());
+        if self.state.elapsed >= self.plan.time {
+            let ways = format!("give more --minutes or remove {state}");
+            self.progress
+                .tell(&format!("the time was over before: {ways}"));
+        } else if !fresh {
+            self.progress.tell(&format!("goes on from {from}"));
+        }
     }
     /// Goes on until the time is over; how many differences there were.
     pub fn finish(mut self) -> Result<u64, String> {

@@ -98,10 +98,14 @@ impl State {
         let state = State::of(&text).ok_or(format!("{name} is no state of this program"))?;
         if state.seed != seed {
             let of = state.seed;
-            return Err(format!("{name} is of seed {of}, not {seed}: name another"));
+            return Err(format!(
+                "{name} is of seed {of}, not {seed}: remove it or name another"
+            ));
         }
         if state.archive != Archive::linked() {
-            return Err(format!("{name} is of another archive: name another"));
+            return Err(format!(
+                "{name} is of another archive: remove it or name another"
+            ));
         }
         Ok(state)
     }
