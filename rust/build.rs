@@ -9,15 +9,20 @@ const DEFAULT: &str = "target/staticlib/libbts136.a";
 fn main() {
     println!("cargo::rerun-if-changed=build.rs");
     println!("cargo::rerun-if-env-changed=BTS136_LIB");
+    let machine = env::var("CARGO_CFG_TARGET_ARCH").unwrap();
+    if machine != "x86_64" {
+        stop(format!(
+            "The archive is made for x86_64, not for {machine}."
+        ))
+    }
     let archive = archive();
     println!("cargo::rerun-if-changed={}", archive.display());
     let Ok(bytes) = fs::read(&archive) else {
-        eprintln!(
+        stop(format!(
             "BTS136_LIB: no archive at {}. `rt staticlib bts136`, run at the top of the \
              repository, makes it; a relative path counts from there.",
             archive.display()
-        );
-        exit(1)
+        ))
     };
     let out = PathBuf::from(env::var("OUT_DIR").unwrap());
     let linked = out.join("libbts136.a");
@@ -27,6 +32,11 @@ fn main() {
     println!("cargo::rustc-env=BTS136_ARCHIVE={}", archive.display());
     println!("cargo::rustc-link-search=native={}", out.display());
     println!("cargo::rustc-link-lib=static=bts136");
+}
+
+fn stop(message: String) -> ! {
+    eprintln!("{message}");
+    exit(1)
 }
 
 /// The one that BTS136_LIB names, counted from the top of the repository.

@@ -16,6 +16,7 @@
 //! assert_eq!(decoded.speech, [true; acelp_cc1::FRAME_BITS]);
 //! # Ok::<(), acelp_cc1::DecodeError>(())
 //! ```
+// Names and the texts of errors are those of 136-bts, acelp_cc1.rs (see NOTICE).
 use crate::bits::{bools, byte_list, bytes, written};
 use crate::flat;
 use crate::refusal::{Refusal, never};

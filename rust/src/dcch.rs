@@ -14,6 +14,7 @@
 //! assert_eq!(decoded.corrected_coded_bits, 1);
 //! # Ok::<(), dcch::BlockError>(())
 //! ```
+// Names and the texts of errors are those of 136-bts, dcch.rs (see NOTICE).
 use crate::bits::{bool_list, byte_list};
 use crate::flat;
 use crate::refusal::{Refusal, never};

@@ -15,6 +15,7 @@
 //! assert_eq!((word.message, word.observed_coded_bits), (message, 130));
 //! # Ok::<(), facch::FacchError>(())
 //! ```
+// Names and the texts of errors are those of 136-bts, facch.rs (see NOTICE).
 use crate::bits::{bools, bytes, packed, unpacked, written};
 use crate::refusal::{Refusal, never};
 use crate::{flat, sys};

@@ -22,7 +22,10 @@ use crate::sys::{self, *};
 
 /// Calls that read a slice and write one.
 macro_rules! one_to_one {
-    ($($(#[$doc:meta])* $call:ident = $function:ident($from:ident, $to:ident) -> $answer:ty;)*) => {$(
+    ($(
+        $(#[$doc:meta])*
+        $call:ident = $function:ident($from:ident, $to:ident) -> $answer:ty;
+    )*) => {$(
         $(#[$doc])*
         pub fn $call($from: &[u8], $to: &mut [u8]) -> $answer {
             unsafe { sys::$function($from.as_ptr(), $from.len(), $to.as_mut_ptr(), $to.len()) }
@@ -32,7 +35,10 @@ macro_rules! one_to_one {
 
 /// Calls that read two slices and write one.
 macro_rules! two_to_one {
-    ($($(#[$doc:meta])* $call:ident = $function:ident($one:ident, $two:ident, $to:ident);)*) => {$(
+    ($(
+        $(#[$doc:meta])*
+        $call:ident = $function:ident($one:ident, $two:ident, $to:ident);
+    )*) => {$(
         $(#[$doc])*
         pub fn $call($one: &[u8], $two: &[u8], $to: &mut [u8]) -> Written {
             let (out, out_len) = ($to.as_mut_ptr(), $to.len());
@@ -44,7 +50,10 @@ macro_rules! two_to_one {
 
 /// Calls on a DCCH block, each with the type of what it reads.
 macro_rules! blocks {
-    ($($(#[$doc:meta])* $call:ident = $function:ident($from:ident: $type:ty, $to:ident);)*) => {$(
+    ($(
+        $(#[$doc:meta])*
+        $call:ident = $function:ident($from:ident: $type:ty, $to:ident);
+    )*) => {$(
         $(#[$doc])*
         pub fn $call($from: &[$type], dvcc: u8, broadcast: bool, $to: &mut [u8]) -> Block {
             let (out, out_len) = ($to.as_mut_ptr(), $to.len());
@@ -93,19 +102,23 @@ blocks! {
     /// Codes 101 bits into the 244 of a normal reverse block.
     dcch_encode_reverse_normal = bts136_dcch_encode_reverse_normal(information: u8, block);
     /// Codes 79 bits into the 200 of an abbreviated reverse block.
-    dcch_encode_reverse_abbreviated = bts136_dcch_encode_reverse_abbreviated(information: u8, block);
+    dcch_encode_reverse_abbreviated =
+        bts136_dcch_encode_reverse_abbreviated(information: u8, block);
     /// Decodes the 260 bits of a forward block into 109.
     dcch_decode_forward = bts136_dcch_decode_forward(block: u8, information);
     /// Decodes the 244 bits of a normal reverse block into 101.
     dcch_decode_reverse_normal = bts136_dcch_decode_reverse_normal(block: u8, information);
     /// Decodes the 200 bits of an abbreviated reverse block into 79.
-    dcch_decode_reverse_abbreviated = bts136_dcch_decode_reverse_abbreviated(block: u8, information);
+    dcch_decode_reverse_abbreviated =
+        bts136_dcch_decode_reverse_abbreviated(block: u8, information);
     /// Decodes the 260 reliabilities of a forward block into 109 bits.
     dcch_decode_soft_forward = bts136_dcch_decode_soft_forward(block: f64, information);
     /// Decodes the 244 reliabilities of a normal reverse block into 101 bits.
-    dcch_decode_soft_reverse_normal = bts136_dcch_decode_soft_reverse_normal(block: f64, information);
+    dcch_decode_soft_reverse_normal =
+        bts136_dcch_decode_soft_reverse_normal(block: f64, information);
     /// Decodes the 200 reliabilities of an abbreviated reverse block into 79 bits.
-    dcch_decode_soft_reverse_abbreviated = bts136_dcch_decode_soft_reverse_abbreviated(block: f64, information);
+    dcch_decode_soft_reverse_abbreviated =
+        bts136_dcch_decode_soft_reverse_abbreviated(block: f64, information);
 }
 
 /// Codes a word into 260 bits.

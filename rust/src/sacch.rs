@@ -19,6 +19,7 @@
 //! assert_eq!(heard.len(), 2);
 //! assert_eq!(heard[1].message, [false; 48]);
 //! ```
+// Names and the texts of errors are those of 136-bts, sacch.rs (see NOTICE).
 use crate::bits::{bytes, packed, unpacked};
 use crate::refusal::{Refusal, never};
 use crate::{flat, sys};

@@ -16,6 +16,7 @@
 //! assert_eq!(candidate.frame.corrected_coded_bits, 1);
 //! # Ok::<(), speech::SpeechError>(())
 //! ```
+// Names and the texts of errors are those of 136-bts, speech.rs (see NOTICE).
 use crate::bits::{bools, bytes, written};
 use crate::flat;
 use crate::refusal::{Refusal, never};
