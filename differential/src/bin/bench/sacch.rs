@@ -3,7 +3,7 @@ use crate::{Case, DVCC, INPUTS};
 use differential::air::{Given, any_word};
 use differential::air::{MESSAGES, fields};
 use differential::blocks::{Ends, bytes, flip};
-use differential::phy::sacch::probe::{State, receiver};
+use differential::phy::sacch::probe::{State, receiver, state};
 use differential::phy::sacch::{self, SacchEncoder};
 use differential::port::Of;
 use differential::port_sacch::{self as port, Encoder, Receiver, unpacked};
@@ -16,8 +16,9 @@ pub fn cases(p: &mut Prng) -> Vec<Case> {
     for (what, flips) in [("clean", Some(0)), ("3-flips", Some(3)), ("random", None)] {
         cases.push(decode(p, what, flips));
     }
-    cases.push(push(p, "unlocked", None));
-    cases.push(push(p, "locked-waiting", Some(5)));
+    cases.push(push(p, "unlocked-clean", true, false));
+    cases.push(push(p, "unlocked-random", false, false));
+    cases.push(push(p, "locked-waiting", true, true));
     cases.push(stream(p));
     cases
 }
@@ -93,25 +94,39 @@ fn decode(p: &mut Prng, what: &str, flips: Option<usize>) -> Case {
     }
 }
 
-/// One push on one state: a trial where it is unlocked, none where it is locked to another phase.
-fn push(p: &mut Prng, what: &str, locked: Option<usize>) -> Case {
-    let state = State {
-        fields: std::array::from_fn(|_| p.array()),
-        received: 12,
-        rows: std::array::from_fn(|_| p.array()),
-        available: 11,
-        locked,
-        ..State::default()
-    };
-    let slots: [u64; INPUTS] = std::array::from_fn(|_| p.draw() % 4096);
-    let start = Receiver::of(&state);
+/// A receiver in the midst of a stream of fields, clean or noise, and the next field.
+fn heard(p: &mut Prng, clean: bool, locked: bool) -> (State, u64) {
+    let words = std::array::from_fn::<Given, 4, _>(|_| any_word(p));
+    let mut sent = fields(&mut SacchEncoder::default(), &words, DVCC);
+    if !clean {
+        sent.fill_with(|| p.below(4096) as u16);
+    }
+    let next = 22 + p.below(11);
+    let mut receiver = sacch::SacchReceiver::default();
+    for field in &sent[..next] {
+        receiver.push_outcome(unpacked((*field).into()), DVCC);
+    }
+    let mut state = state(&receiver);
+    // The phase that has just been is not the next one.
+    state.locked = locked.then_some(state.phase);
+    (state, sent[next].into())
+}
+
+/// One push: a trial where the receiver is unlocked, none where it is locked to another phase. The
+/// receivers are taken in turn, as the inputs of every case: of one alone the Rust's branches
+/// would be learnt by heart.
+fn push(p: &mut Prng, what: &str, clean: bool, locked: bool) -> Case {
+    let (states, slots): (Vec<State>, Vec<u64>) =
+        (0..INPUTS).map(|_| heard(p, clean, locked)).unzip();
+    let starts: Vec<Receiver> = states.iter().map(Receiver::of).collect();
+    let same = slots.clone();
     let port = Contender::new("port", move |i| {
         let field = black_box(slots[i % INPUTS]) as u16;
-        black_box(black_box(start).pushed(field, DVCC));
+        black_box(black_box(starts[i % INPUTS]).pushed(field, DVCC));
     });
     let rust = Contender::new("rust", move |i| {
-        let field = unpacked(black_box(slots[i % INPUTS]));
-        let mut receiver = receiver(black_box(&state));
+        let field = unpacked(black_box(same[i % INPUTS]));
+        let mut receiver = receiver(black_box(&states[i % INPUTS]));
         black_box(receiver.push_outcome(field, DVCC));
         black_box(&receiver);
     });
