@@ -11,7 +11,7 @@ use Rattle.coding.specs.Registers.{memoryLow}
 use Rattle.coding.specs.Checksums.{checksum7Of}
 use Rattle.puncturing.specs.Punctured.{sentOf}
 
--- ---- the speech order, Table 4.2: the place in the codec's frame of each ordered bit
+-- ---- the speech order, Table 4.2, as the original has it: the place in the codec's frame of each ordered bit
 unfoldable pub speechOrder : List ℕ
 speechOrder =
     0 ∷ 1 ∷ 2 ∷ 3 ∷ 4 ∷ 5 ∷ 6 ∷ 7 ∷ 8 ∷ 9 ∷ 10 ∷ 11 ∷ 12 ∷ 13 ∷ 14 ∷ 15 ∷ 16 ∷ 26 ∷ 87 ∷ 27 ∷ 88 ∷ 28 ∷ 89 ∷ 29 ∷ 90 ∷ 30 ∷ 91 ∷ 51 ∷ 80 ∷ 112 ∷ 141 ∷

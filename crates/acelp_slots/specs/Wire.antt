@@ -11,7 +11,7 @@ use Rattle.slots.specs.Slots.{carried, collected}
 use Rattle.acelp_slots.specs.declared.Interleaving.{Interleaving}
 use Rattle.acelp_slots.specs.declared.Interleaving.the-variants.{One, Two, Three}
 
--- Table 4.3, row by row: the place in the frame of the bit that each column carries
+-- Table 4.3, as the original has it, row by row: the place in the frame of the bit that each column carries
 unfoldable pub table : List (List ℕ)
 table =
     (220 ∷ 219 ∷ 218 ∷ 233 ∷ 232 ∷ 231 ∷ 211 ∷ 210 ∷ 209 ∷ 208 ∷ []) ∷
