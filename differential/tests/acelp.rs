@@ -1,10 +1,10 @@
 //! ACELP CC1 frames coded, decoded and put into slots by the port and by the Rust, the decoder
 //! beside an independent count of the nearest words. The codec's bits are converted by the
 //! original's `codec_bits` and `from_codec_bits`.
-use differential::blocks::{Ends, KINDS, Kind, bytes, flip};
-use differential::calls::FrameAnswers;
-use differential::compare::acelp::{INPUTS, MODES, SPEECH, coded, placed};
+use differential::blocks::bytes;
+use differential::compare::acelp::{FRAMES, MODES, SPEECH};
 use differential::compare::acelp::{decode, deinterleave, encode, interleave};
+use differential::compare::frames::tried;
 use differential::phy::acelp_cc1::{CHANNEL_BITS, Interleaving};
 use differential::port::Refused;
 use differential::port_facch::SYMBOL;
@@ -33,43 +33,18 @@ fn encoded() {
 }
 
 #[track_caller]
-fn compare(answers: &mut FrameAnswers, frame: &[bool; CHANNEL_BITS]) {
-    answers.count(&decode(&bytes(frame), SPEECH));
+fn decoded(frame: &[bool; CHANNEL_BITS]) -> Frame {
+    decode(&bytes(frame), SPEECH)
 }
 
 #[test]
 fn damaged() {
-    let mut p = Prng(0xacd);
-    let mut tally = Tally::new("ACELP decode, frames");
-    for flips in 0..=12 {
-        let mut answers = FrameAnswers::default();
-        for _ in 0..2500 {
-            let mut frame = coded(&p.array());
-            flip(&mut p, &mut frame, flips);
-            compare(&mut answers, &frame);
-        }
-        assert!(flips > 0 || answers.valid == answers.calls());
-        let what = format!("{flips} wrong bits, {}", answers.text());
-        tally.part(&what, answers.calls());
-    }
-    tally.end();
+    tried::damaged("ACELP decode, frames", 0xacd, &FRAMES, decoded);
 }
 
 #[test]
 fn every_kind() {
-    let mut p = Prng(0xacf);
-    let mut tally = Tally::new("ACELP decode, every kind");
-    for kind in KINDS {
-        let mut answers = FrameAnswers::default();
-        for _ in 0..4000 {
-            let coded = Ends::Zero.block(&mut p, kind, INPUTS);
-            compare(&mut answers, &placed(&mut p, &coded));
-        }
-        assert!(kind != Kind::Near || answers.ambiguous > 0);
-        assert!(kind != Kind::Noise || answers.failed > 0);
-        tally.part(&format!("{kind:?}, {}", answers.text()), answers.calls());
-    }
-    tally.end();
+    tried::every_kind("ACELP decode, every kind", 0xacf, &FRAMES, decoded);
 }
 
 fn compare_slots(three: &[[bool; CHANNEL_BITS]; 3], mode: Interleaving) {

@@ -1,9 +1,9 @@
 //! VSELP frames coded, decoded and put into slots by the port and by the Rust, the decoder beside
 //! an independent count of the nearest words.
-use differential::blocks::{Ends, KINDS, Kind, bytes, flip};
-use differential::calls::FrameAnswers;
-use differential::compare::speech::{INPUTS, any_bits, deinterleave, encode, interleave};
-use differential::compare::speech::{decode, placed};
+use differential::blocks::bytes;
+use differential::compare::frames::tried;
+use differential::compare::speech::{FRAMES, any_bits};
+use differential::compare::speech::{decode, deinterleave, encode, interleave};
 use differential::phy::speech as rust;
 use differential::phy::speech::{CHANNEL_BITS, CLASS_ONE_BITS, CLASS_TWO_BITS, SpeechBits};
 use differential::port::Refused;
@@ -47,43 +47,18 @@ fn encoded() {
 }
 
 #[track_caller]
-fn compare(answers: &mut FrameAnswers, frame: &[bool; CHANNEL_BITS]) {
-    answers.count(&decode(&bytes(frame), CLASS_ONE_BITS, CLASS_TWO_BITS));
+fn decoded(frame: &[bool; CHANNEL_BITS]) -> Frame {
+    decode(&bytes(frame), CLASS_ONE_BITS, CLASS_TWO_BITS)
 }
 
 #[test]
 fn damaged() {
-    let mut p = Prng(0x5bd);
-    let mut tally = Tally::new("VSELP decode, frames");
-    for flips in 0..=12 {
-        let mut answers = FrameAnswers::default();
-        for _ in 0..2500 {
-            let mut frame = rust::encode(&any_bits(&mut p));
-            flip(&mut p, &mut frame, flips);
-            compare(&mut answers, &frame);
-        }
-        assert!(flips > 0 || answers.valid == answers.calls());
-        let what = format!("{flips} wrong bits, {}", answers.text());
-        tally.part(&what, answers.calls());
-    }
-    tally.end();
+    tried::damaged("VSELP decode, frames", 0x5bd, &FRAMES, decoded);
 }
 
 #[test]
 fn every_kind() {
-    let mut p = Prng(0x5bf);
-    let mut tally = Tally::new("VSELP decode, every kind");
-    for kind in KINDS {
-        let mut answers = FrameAnswers::default();
-        for _ in 0..4000 {
-            let coded = Ends::Zero.block(&mut p, kind, INPUTS);
-            compare(&mut answers, &placed(&mut p, &coded));
-        }
-        assert!(kind != Kind::Near || answers.ambiguous > 0);
-        assert!(kind != Kind::Noise || answers.failed > 0);
-        tally.part(&format!("{kind:?}, {}", answers.text()), answers.calls());
-    }
-    tally.end();
+    tried::every_kind("VSELP decode, every kind", 0x5bf, &FRAMES, decoded);
 }
 
 fn compare_slots(a: &[bool; CHANNEL_BITS], b: &[bool; CHANNEL_BITS]) {

@@ -4,6 +4,7 @@
 use crate::blocks::bytes;
 use crate::calls::{array, lend, refusal, writes};
 use crate::codec::mr74::Parameters;
+use crate::compare::frames::Codec;
 use crate::phy::acelp_cc1 as rust;
 use crate::phy::acelp_cc1::{CHANNEL_BITS, DecodedFrame, Interleaving, PROTECTED_BITS};
 use crate::port::{Of, Refused};
@@ -18,6 +19,13 @@ pub const INPUTS: usize = 108;
 pub const THREE: usize = 3 * CHANNEL_BITS;
 const PERIOD: usize = 27;
 pub const MODES: [Interleaving; 3] = [Interleaving::One, Interleaving::Two, Interleaving::Three];
+
+/// The frames that the decoder is tried on.
+pub const FRAMES: Codec = Codec {
+    inputs: INPUTS,
+    sent: |p| coded(&p.array()),
+    placed,
+};
 
 /// The Rust's frame.
 pub fn coded(speech: &[bool; SPEECH]) -> [bool; CHANNEL_BITS] {

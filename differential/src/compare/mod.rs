@@ -6,6 +6,7 @@ pub mod acelp;
 pub mod checksum;
 pub mod dcch;
 pub mod facch;
+pub mod frames;
 pub mod listening;
 pub mod sacch;
 pub mod sacch_encoder;

@@ -2,6 +2,7 @@
 //! nearest words.
 use crate::blocks::bytes;
 use crate::calls::{array, refusal, writes};
+use crate::compare::frames::Codec;
 use crate::lent::Lent;
 use crate::phy::speech as rust;
 use crate::phy::speech::{CHANNEL_BITS, CLASS_ONE_BITS, CLASS_TWO_BITS, CrcStatus};
@@ -14,6 +15,13 @@ use crate::prng::Prng;
 use crate::reference;
 
 pub const INPUTS: usize = 89;
+
+/// The frames that the decoder is tried on.
+pub const FRAMES: Codec = Codec {
+    inputs: INPUTS,
+    sent: |p| rust::encode(&any_bits(p)),
+    placed,
+};
 
 #[track_caller]
 pub fn encode(one: &[u8], two: &[u8], room: usize) -> Written {

@@ -1,8 +1,7 @@
 //! ACELP CC1 frames. The original's parameters are converted by `codec_bits`.
-use crate::Answers;
+use crate::{Answers, frames_decoded};
 use bindings::acelp_cc1 as port;
-use differential::blocks::{Ends, KINDS, flip};
-use differential::compare::acelp::{INPUTS, MODES, coded, placed};
+use differential::compare::acelp::{FRAMES, MODES, coded};
 use differential::phy::acelp_cc1 as rust;
 use differential::prng::Prng;
 use differential::tally::Tally;
@@ -34,30 +33,12 @@ fn decode(answers: &mut Answers, frame: &[bool; rust::CHANNEL_BITS]) {
 fn frames() {
     let mut p = Prng(0xbac0);
     let mut tally = Tally::new("crate, ACELP");
-    let mut sent = 0;
-    for flips in 0..=12 {
-        let mut answers = Answers::default();
-        for _ in 0..200 {
-            let speech = p.array();
-            let mut frame = coded(&speech);
-            assert_eq!(port::encode(&speech), frame, "{speech:?}");
-            sent += 1;
-            flip(&mut p, &mut frame, flips);
-            decode(&mut answers, &frame);
-        }
-        let what = format!("{flips} wrong bits, {}", answers.text());
-        tally.part(&what, answers.calls());
+    for _ in 0..2600 {
+        let speech = p.array();
+        assert_eq!(port::encode(&speech), coded(&speech), "{speech:?}");
     }
-    tally.part("encode", sent);
-    let mut answers = Answers::default();
-    for kind in KINDS {
-        for _ in 0..300 {
-            let block = Ends::Zero.block(&mut p, kind, INPUTS);
-            decode(&mut answers, &placed(&mut p, &block));
-        }
-    }
-    assert!(answers.0[5] > 0);
-    tally.part(&format!("every kind, {}", answers.text()), answers.calls());
+    tally.part("encode", 2600);
+    frames_decoded(&mut p, &mut tally, &FRAMES, decode);
     tally.end();
 }
 

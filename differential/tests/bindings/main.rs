@@ -9,6 +9,10 @@ mod speech;
 mod switch;
 
 use bindings::{Refusal, acelp_cc1, dcch as blocks, facch as words, sacch, speech as vselp};
+use differential::blocks::KINDS;
+use differential::compare::frames::{Codec, Frame, MOST_WRONG};
+use differential::prng::Prng;
+use differential::tally::Tally;
 use std::error::Error;
 use std::fmt::Debug;
 
@@ -92,4 +96,26 @@ fn same_error(port: impl Numbered, rust: impl Error) -> u8 {
     let (number, refusal): (u8, Refusal) = (port.number(), port.into());
     assert_eq!((number, refusal.number()), (number_of(&rust), number));
     number
+}
+
+/// A speech decoder of the crate on frames with wrong bits and on blocks of every kind.
+#[track_caller]
+fn frames_decoded(
+    p: &mut Prng,
+    tally: &mut Tally,
+    codec: &Codec,
+    decode: fn(&mut Answers, &Frame),
+) {
+    for flips in 0..=MOST_WRONG {
+        let mut answers = Answers::default();
+        codec.damaged(p, flips, 200, |frame| decode(&mut answers, frame));
+        let what = format!("{flips} wrong bits, {}", answers.text());
+        tally.part(&what, answers.calls());
+    }
+    let mut answers = Answers::default();
+    for kind in KINDS {
+        codec.of_kind(p, kind, 300, |frame| decode(&mut answers, frame));
+    }
+    assert!(answers.0[5] > 0);
+    tally.part(&format!("every kind, {}", answers.text()), answers.calls());
 }

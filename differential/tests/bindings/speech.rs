@@ -1,8 +1,7 @@
 //! VSELP frames.
-use crate::Answers;
+use crate::{Answers, frames_decoded};
 use bindings::speech as port;
-use differential::blocks::{Ends, KINDS, flip};
-use differential::compare::speech::{INPUTS, any_bits, placed};
+use differential::compare::speech::{FRAMES, any_bits};
 use differential::phy::speech as rust;
 use differential::prng::Prng;
 use differential::tally::Tally;
@@ -24,30 +23,16 @@ fn decode(answers: &mut Answers, frame: &[bool; rust::CHANNEL_BITS]) {
 fn frames() {
     let mut p = Prng(0xb5b0);
     let mut tally = Tally::new("crate, VSELP");
-    let mut coded = 0;
-    for flips in 0..=12 {
-        let mut answers = Answers::default();
-        for _ in 0..200 {
-            let given = any_bits(&mut p);
-            let mut frame = rust::encode(&given);
-            assert_eq!(port::encode(&bits(&given)), frame, "{given:?}");
-            coded += 1;
-            flip(&mut p, &mut frame, flips);
-            decode(&mut answers, &frame);
-        }
-        let what = format!("{flips} wrong bits, {}", answers.text());
-        tally.part(&what, answers.calls());
+    for _ in 0..2600 {
+        let given = any_bits(&mut p);
+        assert_eq!(
+            port::encode(&bits(&given)),
+            rust::encode(&given),
+            "{given:?}"
+        );
     }
-    tally.part("encode", coded);
-    let mut answers = Answers::default();
-    for kind in KINDS {
-        for _ in 0..300 {
-            let block = Ends::Zero.block(&mut p, kind, INPUTS);
-            decode(&mut answers, &placed(&mut p, &block));
-        }
-    }
-    assert!(answers.0[5] > 0);
-    tally.part(&format!("every kind, {}", answers.text()), answers.calls());
+    tally.part("encode", 2600);
+    frames_decoded(&mut p, &mut tally, &FRAMES, decode);
     tally.end();
 }
 
