@@ -5,6 +5,7 @@ use bindings::flat;
 pub use bindings::flat::{acelp_transition, dcch_transition, facch_transition};
 pub use bindings::flat::{checksum, checksum7, viterbi, viterbi_free};
 pub use bindings::sys::{Block, Crc as Checksum, Search, Step};
+use bindings::sys::{FacchWord, Frame, SacchWord};
 
 /// A state or an answer of the port, made of what the Rust or another call has.
 pub trait Of<T> {
@@ -18,6 +19,21 @@ pub trait Refused {
     /// For a length: the one that was expected and the one that came.
     fn length(expected: usize, actual: usize) -> Self;
 }
+
+macro_rules! refused {
+    ($($answer:ty),*) => {$(
+        impl Refused for $answer {
+            fn refused(refusal: u8) -> Self {
+                Self { refusal, ..Self::default() }
+            }
+            fn length(expected: usize, actual: usize) -> Self {
+                Self { expected, actual, ..Self::refused(1) }
+            }
+        }
+    )*};
+}
+
+refused!(FacchWord, SacchWord, Frame);
 
 pub fn dcch_encode(
     format: BlockFormat,

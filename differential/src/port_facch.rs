@@ -1,5 +1,4 @@
 //! The port's calls on FACCH words, as port.rs has the others.
-use crate::port::Refused;
 use bindings::flat;
 pub use bindings::flat::{
     facch_decode as decode, facch_decode_erased as decode_erased,
@@ -19,27 +18,6 @@ pub const fn length(expected: usize, actual: usize) -> Written {
         refusal: 1,
         expected,
         actual,
-    }
-}
-
-impl Refused for Word {
-    fn refused(refusal: u8) -> Self {
-        Word {
-            refusal,
-            expected: 0,
-            actual: 0,
-            continuation: false,
-            message: 0,
-            corrected: 0,
-            observed: 0,
-        }
-    }
-    fn length(expected: usize, actual: usize) -> Self {
-        Word {
-            expected,
-            actual,
-            ..Word::refused(1)
-        }
     }
 }
 

@@ -46,27 +46,6 @@ impl Of<&State> for Receiver {
     }
 }
 
-impl Refused for Word {
-    fn refused(refusal: u8) -> Self {
-        Word {
-            refusal,
-            expected: 0,
-            actual: 0,
-            continuation: false,
-            message: 0,
-            corrected: 0,
-            ending: 0,
-        }
-    }
-    fn length(expected: usize, actual: usize) -> Self {
-        Word {
-            expected,
-            actual,
-            ..Word::refused(1)
-        }
-    }
-}
-
 impl Of<&Result<SacchWord, SacchError>> for Word {
     fn of(rust: &Result<SacchWord, SacchError>) -> Self {
         match rust {

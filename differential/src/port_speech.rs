@@ -5,22 +5,6 @@ use crate::port_facch::Written;
 use bindings::flat;
 pub use bindings::sys::Frame;
 
-impl Refused for Frame {
-    fn refused(refusal: u8) -> Self {
-        Frame {
-            refusal,
-            ..accepted(false, 0)
-        }
-    }
-    fn length(expected: usize, actual: usize) -> Self {
-        Frame {
-            expected,
-            actual,
-            ..Frame::refused(1)
-        }
-    }
-}
-
 pub const fn accepted(valid: bool, corrected: u16) -> Frame {
     Frame {
         refusal: 0,

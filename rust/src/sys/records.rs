@@ -70,7 +70,7 @@ pub struct Written {
 
 /// A FACCH word decoded.
 #[repr(C)]
-#[derive(Clone, Copy, Debug, PartialEq, Eq)]
+#[derive(Clone, Copy, Debug, Default, PartialEq, Eq)]
 pub struct FacchWord {
     /// 0 to 5.
     pub refusal: u8,
@@ -126,7 +126,7 @@ pub struct Fields {
 
 /// A SACCH word decoded.
 #[repr(C)]
-#[derive(Clone, Copy, Debug, PartialEq, Eq)]
+#[derive(Clone, Copy, Debug, Default, PartialEq, Eq)]
 pub struct SacchWord {
     /// 0, 1, 2, 3, 5 or 6.
     pub refusal: u8,
@@ -200,7 +200,7 @@ pub const REFUSED: u8 = 3;
 
 /// A speech frame decoded.
 #[repr(C)]
-#[derive(Clone, Copy, Debug, PartialEq, Eq)]
+#[derive(Clone, Copy, Debug, Default, PartialEq, Eq)]
 pub struct Frame {
     /// 0, 1, 2 or 5.
     pub refusal: u8,
