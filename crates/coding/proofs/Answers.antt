@@ -2,20 +2,21 @@
 use mathlib.Core.Path.{_≡_, refl, sym, ap, subst, _∙_}
 use mathlib.Core.Bool.{Bool, true, false, cond, not}
 use mathlib.Core.List.{List, _++_}
-use Prim.Native.Nat.{ℕ, _^_, _<_}
+use Prim.Native.Nat.{ℕ, _/_, _%_, _^_, _<_}
 use native.Mathlib.Omega.{arith}
 use lib.ListN.{length}
-use Rattle.bits.specs.Bits.{bits, bytes, allBinary}
+use Rattle.bits.specs.Bits.{bits, allBinary}
 use Rattle.bits.specs.Numbers.{packed, unpacked}
 use Rattle.bits.specs.Refusals.{accepted, refused}
 use Rattle.bits.specs.declared.Refusal.the-variants.{Symbol}
-use Rattle.bits.proofs.Binary.{bits-bytes, binary-bytes}
 use Rattle.bits.proofs.Packed.{packed-below}
 use Rattle.coding.specs.declared.checksum.CrcMode.{CrcMode}
 use Rattle.coding.specs.declared.checksum.CrcMode.the-variants.{Broadcast, Addressed}
 use Rattle.coding.proofs.Division.{checkBits-length}
 use Rattle.coding.specs.Checksums.{checkBits, ccitt, complemented, checksumOf, checksum7Of, ofBits}
-use Rattle.coding.proofs.Shifting.{Remains, run-once, run-twice}
+use Rattle.coding.specs.Feedback.{registerAfter}
+use Rattle.coding.proofs.Shifting.{Remains, run-once, after-append, after-zero}
+use Rattle.coding.proofs.Fours.{two-fours}
 
 -- ---- the test of the bytes
 not-one : (b : Bool) → not b ≡ false → b ≡ true
@@ -37,18 +38,19 @@ module _ (l : List ℕ) {a : Bool} (e : a ≡ allBinary l) where
   not-bits x h = sym (ap (λ (b : Bool). cond b (accepted x) (refused Symbol)) (sym e ∙ not-zero a h))
 
 -- ---- the values
-module _ (w : List ℕ) (dvcc : ℕ) (colour : w ≡ bytes (unpacked 8 dvcc)) where
-  pub colour-binary : allBinary w ≡ true
-  colour-binary = ap allBinary colour ∙ binary-bytes (unpacked 8 dvcc)
-
-  pub value16 : (l : List ℕ) (mode : CrcMode) {x y r : ℕ} → Remains 32768 4129 0 (bits w) x → Remains 32768 4129 x (bits l) y
-      → r ≡ complemented mode y → r ≡ checksumOf (bits l) dvcc mode
-  unfolding checksumOf unpacked
-  value16 l mode e f h =
-      h
-      ∙ ap (complemented mode)
-      (run-twice 16 refl (omega arith) (bits w) (bits l) e f
-      ∙ ap (λ (u : List Bool). packed (checkBits ccitt (u ++ bits l))) (ap bits colour ∙ bits-bytes (unpacked 8 dvcc)))
+-- the colour code in two fours, and then the information
+pub value16 : (l : List ℕ) (dvcc : ℕ) (mode : CrcMode) {x y z r : ℕ} → x ≡ registerAfter 16 4129 0 (unpacked 4 (dvcc / 16))
+    → y ≡ registerAfter 16 4129 x (unpacked 4 (dvcc % 16)) → z ≡ registerAfter 16 4129 y (bits l) → r ≡ complemented mode z
+    → r ≡ checksumOf (bits l) dvcc mode
+unfolding checksumOf unpacked
+value16 l dvcc mode {x} {y} ex ey ez e =
+    let colour : y ≡ registerAfter 16 4129 0 (unpacked 8 dvcc) =
+    ey ∙ ap (λ (h : ℕ). registerAfter 16 4129 h (unpacked 4 (dvcc % 16))) ex
+    ∙ after-append 16 4129 0 (unpacked 4 (dvcc / 16)) (unpacked 4 (dvcc % 16)) ∙ ap (registerAfter 16 4129 0) (two-fours dvcc) in
+    e
+    ∙ ap (complemented mode)
+    (ez ∙ ap (λ (h : ℕ). registerAfter 16 4129 h (bits l)) colour ∙ after-append 16 4129 0 (unpacked 8 dvcc) (bits l)
+    ∙ after-zero 16 4129 (unpacked 8 dvcc ++ bits l))
 
 pub value7 : (l : List ℕ) {r : ℕ} → Remains 64 55 0 (bits l) r → r ≡ checksum7Of (bits l)
 unfolding checksum7Of unpacked

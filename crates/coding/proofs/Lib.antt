@@ -6,4 +6,5 @@ pub mod Encoding
 pub mod Unique
 pub mod Division
 pub mod Shifting
+pub mod Fours
 pub mod Answers

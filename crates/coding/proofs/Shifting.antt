@@ -163,17 +163,10 @@ module _ {s : List ℕ} {top p x₀ x k : ℕ} (i : Running s top p x₀ x k) wh
       ∙ ap (λ (l : List ℕ). packed (machine (unpacked n p) (unpacked n x) (bits l))) (sym (drop-of-length-le s h))
       ∙ ap packed (i .rest n z) ∙ sym (after-machine n p x₀ (bits s))
 
--- ---- runs from zero, of what `run` ensures
+-- ---- a run from zero, of what `run` ensures
 -- bits u into a register that holds x leave y, at every width that fits
 abbrev pub Remains : ℕ → ℕ → ℕ → List Bool → ℕ → Type 0
 Remains top p x u y = (n : ℕ) → Sized n top p x → y ≡ registerAfter n p x u
 
-module _ (n : ℕ) {top p : ℕ} (w : 2 ^ n ≡ top * 2) (d : p < 2 ^ n) where
-  pub run-once : (u : List Bool) {x : ℕ} → Remains top p 0 u x → x ≡ packed (checkBits (unpacked n p) u)
-  run-once u e = e n (record { width = w; divisor = d; value = pow-pos n }) ∙ after-zero n p u
-
-  pub run-twice : (u v : List Bool) {x y : ℕ} → Remains top p 0 u x → Remains top p x v y → y ≡ packed (checkBits (unpacked n p) (u ++ v))
-  run-twice u v {x} e f =
-      let s : x ≡ registerAfter n p 0 u = e n (record { width = w; divisor = d; value = pow-pos n }) in
-      f n (record { width = w; divisor = d; value = subst (λ (r : ℕ). r < 2 ^ n) (sym s) (after-below n p 0 u) })
-      ∙ ap (λ (r : ℕ). registerAfter n p r v) s ∙ after-append n p 0 u v ∙ after-zero n p (u ++ v)
+pub run-once : (n : ℕ) {top p : ℕ} → 2 ^ n ≡ top * 2 → p < 2 ^ n → (u : List Bool) {x : ℕ} → Remains top p 0 u x → x ≡ packed (checkBits (unpacked n p) u)
+run-once n {p = p} w d u e = e n (record { width = w; divisor = d; value = pow-pos n }) ∙ after-zero n p u

@@ -2,9 +2,9 @@
 // Ported from 136-bts, dcch.rs and acelp_cc1.rs, and changed (see NOTICE).
 use bits::Refusal;
 use bits::all_binary;
-use bits::unpack;
 ghost use mathlib.Core.Path.{_≡_};
 ghost use mathlib.Core.Bool.{true};
+ghost use mathlib.Core.List.{[], _∷_};
 ghost use Prim.Native.Nat.{ℕ, _<_, _≤_};
 ghost use Rattle.bits.specs.Bits.{allBinary, bit, bits};
 ghost use Rattle.bits.specs.Numbers.{packed, unpacked};
@@ -60,6 +60,39 @@ fn run(register: u16, s: &[u8], top: u16, polynomial: u16) -> u16
     x
 }
 
+// Four bits into a register of the 16-bit checksum. The register's highest four against them are the next four of the quotient, and the
+// polynomial's terms are five places or more apart, so that no sum in its product with them carries.
+fn four_in(register: u16, four: u16) -> u16
+    requires { ⌜ four < 16 ⌝ }
+    ensures { λ r. ⌜ r ≡ registerAfter 16 4129 register (unpacked 4 four) ⌝ }
+{
+    let quotient = (register / 4096) ^ four;
+    (register % 4096 * 16) ^ (quotient * CCITT)
+}
+
+// The number that four bits write, the first highest.
+fn four_of(a: u8, b: u8, c: u8, d: u8) -> u16
+    requires { ⌜ (a < 2) × (b < 2) × (c < 2) × (d < 2) ⌝ }
+    ensures { λ r. ⌜ (r < 16) × (unpacked 4 r ≡ bit a ∷ bit b ∷ bit c ∷ bit d ∷ []) ⌝ }
+{
+    (a * 8 + b * 4 + c * 2 + d) as u16
+}
+
+// Bits into a register of the 16-bit checksum, by fours, and those that are left one after the other.
+fn run_by_fours(register: u16, s: &[u8]) -> u16
+    requires { ⌜ allBinary (now s) ≡ true ⌝ }
+    ensures { λ r. ⌜ r ≡ registerAfter 16 4129 register (bits (now (s .entry))) ⌝ }
+{
+    let mut x = register;
+    let mut i = 0;
+    while 4 <= s.len() - i {
+        let four = four_of(s[i], s[i + 1], s[i + 2], s[i + 3]);
+        x = four_in(x, four);
+        i += 4;
+    }
+    run(x, &s[i..], TOP, CCITT)
+}
+
 // A checksum as it is sent.
 fn sent(register: u16, mode: CrcMode) -> u16
     ensures { λ r. ⌜ r ≡ complemented mode register ⌝ }
@@ -75,10 +108,10 @@ pub fn checksum_of_bits(information: &[u8], dvcc: u8, mode: CrcMode) -> u16
     requires { ⌜ allBinary (now information) ≡ true ⌝ }
     ensures { λ r. ⌜ r ≡ checksumOf (bits (now (information .entry))) dvcc mode ⌝ }
 {
-    let mut colour = [0u8; 8];
-    unpack(dvcc as u64, &mut colour);
-    let start = run(0, &colour, TOP, CCITT);
-    let register = run(start, information, TOP, CCITT);
+    let colour = dvcc as u16;
+    let half = four_in(0, colour / 16);
+    let start = four_in(half, colour % 16);
+    let register = run_by_fours(start, information);
     sent(register, mode)
 }
 
