@@ -1,10 +1,10 @@
--- Bytes taken from places and put at places.
+-- Bytes taken from places, put at places, and sent by turns.
 use mathlib.Core.Path.{_≡_}
 use mathlib.Core.Bool.{cond}
-use mathlib.Core.List.{List}
-use Prim.Native.Nat.{ℕ, _+_, _-_, _*_, _/_, _%_, _<_}
-use lib.Dec.{eqb, ltb}
-use lib.ListN.{length, getD, set}
+use mathlib.Core.List.{List, [], _∷_}
+use Prim.Native.Nat.{ℕ, _<_}
+use lib.Dec.{ltb}
+use lib.ListN.{length, getD}
 use Rattle.bits.specs.Places.{listed, placeIn}
 
 -- the bytes at the places
@@ -25,7 +25,8 @@ pub record Apart (places : List ℕ) (n : ℕ) : Type 0 where
   pub low : Below places n
   pub once : (k : ℕ) → k < length places → placeIn places (getD places k 0) ≡ k
 
--- the pair of a step put at its place in the frame; of each 27 steps the last sends nothing
-unfoldable pub pairSent : ℕ → List ℕ → List ℕ → List ℕ
-pairSent step pair frame =
-    cond (eqb (step % 27) 26) frame (set (set frame ((step - step / 27) * 2) (getD pair 0 0)) ((step - step / 27) * 2 + 1) (getD pair 1 0))
+-- two lists by turns
+unfoldable pub byTurns : {A : Type 0} → List A → List A → List A
+byTurns [] l = []
+byTurns (x ∷ k) [] = []
+byTurns (x ∷ k) (y ∷ l) = x ∷ y ∷ byTurns k l

@@ -12,20 +12,22 @@ use bits::exact;
 use bits::first;
 use bits::only_bits;
 use bits::unpack;
-use coding::acelp::transition;
+use coding::acelp::first_outputs;
+use coding::acelp::second_outputs;
 use coding::checksum::checksum7_of_bits;
-ghost use mathlib.Core.Bool.{true};
-ghost use mathlib.Core.List.{_++_};
+ghost use mathlib.Core.Bool.{Bool, true};
+ghost use mathlib.Core.List.{List, _++_};
 ghost use mathlib.Core.Path.{_≡_};
-ghost use Prim.Native.Nat.{_<_};
+ghost use Prim.Native.Nat.{_+_, _≤_};
 ghost use lib.ListN.{drop, length, replicate};
+ghost use lib.Seq.{paste};
 ghost use Rattle.bits.specs.Bits.{allBinary, bits, bytes};
 ghost use Rattle.coding.specs.Codes.{acelp, coded};
 ghost use Rattle.coding.specs.Registers.{memoryLow};
 ghost use Rattle.puncturing.specs.Punctured.{sentOf};
 ghost use Rattle.acelp_cc1.specs.Calls.{Encoding, lentEncode};
 ghost use Rattle.acelp_cc1.specs.Frames.{frameOf, inputsOf, ordered};
-ghost use Rattle.acelp_cc1.specs.Places.{pairSent};
+ghost use Rattle.acelp_cc1.specs.Places.{byTurns};
 
 fn lent_encode(speech: &[u8], room: usize) -> Lent
     ensures { λ r. ⌜ r ≡ lentEncode (now (speech .entry)) room ⌝ }
@@ -58,31 +60,40 @@ fn fill_inputs(sorted: &[u8], inputs: &mut [u8])
     scatter(&positions, &parity, inputs);
 }
 
-// Writes the pair of a step, where it sends one: of each 27 steps the last sends nothing.
-fn send_pair(step: usize, pair: [u8; 2], frame: &mut [u8])
-    requires { ⌜ (step < 108) × (length (now frame) ≡ 260) ⌝ }
-    ensures { λ _. ⌜ now (frame .exit) ≡ pairSent step pair (now (frame .entry)) ⌝ }
+// Writes the pairs of 26 steps.
+fn send_run(first: &[u8], second: &[u8], from: usize, frame: &mut [u8], at: usize)
+    requires { ⌜ (from + 26 ≤ length (now first)) × (from + 26 ≤ length (now second)) × (at + 52 ≤ length (now frame)) ⌝ }
+    ensures { λ _. ⌜ now (frame .exit) ≡ paste (now (frame .entry)) at (byTurns (drop from (now (first .entry))) (drop from (now (second .entry)))) 52 ⌝ }
 {
-    if step % 27 == 26 {
-        return;
+    for i in 0..26usize {
+        frame[at + i * 2] = first[from + i];
+        frame[at + i * 2 + 1] = second[from + i];
     }
-    let at = (step - step / 27) * 2;
-    frame[at] = pair[0];
-    frame[at + 1] = pair[1];
 }
 
-// Writes the protected bits of the inputs.
+// Writes the pairs of 108 steps, but those of the last of each 27.
+fn send_runs(first: &[u8], second: &[u8], frame: &mut [u8])
+    requires { ⌜ (length (now first) ≡ 108) × (length (now second) ≡ 108) × (length (now frame) ≡ 260) ⌝ }
+    ensures { λ _. ⌜ ((c : List Bool) → byTurns (now (first .entry)) (now (second .entry)) ≡ bytes c → now (frame .exit) ≡ bytes (sentOf c) ++ drop 208 (now (frame .entry))) ⌝ }
+{
+    send_run(first, second, 0, frame, 0);
+    send_run(first, second, 27, frame, 52);
+    send_run(first, second, 54, frame, 104);
+    send_run(first, second, 81, frame, 156);
+}
+
+// Writes the protected bits of the inputs, which follow five zeros.
 fn send(inputs: &[u8], frame: &mut [u8])
     requires { ⌜ (length (now inputs) ≡ 108) × (allBinary (now inputs) ≡ true) × (length (now frame) ≡ 260) ⌝ }
     ensures { λ _. ⌜ now (frame .exit) ≡ bytes (sentOf (coded acelp (memoryLow 0) (bits (now (inputs .entry))))) ++ drop 208 (now (frame .entry)) ⌝ }
 {
-    let mut state = 0u8;
-    for step in 0..108usize {
-        let taken = transition(state, inputs[step]);
-        let pair = taken.output;
-        send_pair(step, pair, frame);
-        state = taken.next;
-    }
+    let mut line = [0u8; 113];
+    copy_end(inputs, 0, &mut line, 5);
+    let mut first = [0u8; 108];
+    first_outputs(&line, &mut first);
+    let mut second = [0u8; 108];
+    second_outputs(&line, &mut second);
+    send_runs(&first, &second, frame);
 }
 
 // Writes a frame: the protected bits, and class two as it is.

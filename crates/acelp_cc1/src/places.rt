@@ -17,8 +17,8 @@ pub fn parity_positions() -> [u8; 7]
     CRC_POSITIONS
 }
 
-// The place in the inputs of a class-one bit.
-fn information_position(index: usize) -> usize
+// The place in the inputs of a class-one bit, in bytes: so the loop over all of them is vectorised.
+fn information_position(index: u8) -> u8
     requires { ⌜ index < 96 ⌝ }
     ensures { λ r. ⌜ (r ≡ informationPlace index) × (r < 108) ⌝ }
 {
@@ -37,7 +37,7 @@ pub fn information_positions() -> [u8; 96]
 {
     let mut places = [0u8; 96];
     for i in 0..96usize {
-        places[i] = information_position(i) as u8;
+        places[i] = information_position(i as u8);
     }
     places
 }

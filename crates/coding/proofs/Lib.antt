@@ -3,6 +3,7 @@ pub mod Steps
 pub mod Mirror
 pub mod Coded
 pub mod Encoding
+pub mod Lines
 pub mod Unique
 pub mod Division
 pub mod Shifting

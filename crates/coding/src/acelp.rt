@@ -2,9 +2,13 @@
 // Ported from 136-bts, acelp_cc1.rs, and changed (see NOTICE).
 use crate::dcch::Step;
 use crate::register::parity;
-ghost use Prim.Native.Nat.{_<_};
-ghost use Rattle.bits.specs.Bits.{bit};
-ghost use Rattle.coding.specs.Codes.{acelp};
+ghost use mathlib.Core.Bool.{true};
+ghost use mathlib.Core.List.{reverse};
+ghost use mathlib.Core.Path.{_≡_};
+ghost use Prim.Native.Nat.{_+_, _<_};
+ghost use lib.ListN.{drop, length, take};
+ghost use Rattle.bits.specs.Bits.{allBinary, bit, bits, bytes};
+ghost use Rattle.coding.specs.Codes.{acelp, coded};
 ghost use Rattle.coding.specs.Registers.{memoryLow, Stepped};
 
 // TIA/EIA-136-410 4.3, the newest input lowest.
@@ -21,5 +25,25 @@ pub fn transition(state: u8, input: u8) -> Step
     Step {
         next: register & 31,
         output: [parity(register, G0), parity(register, G1)],
+    }
+}
+
+// What G0 sends at each input of a line after the first five. A sum of bytes at fixed distances: with no register to carry, the loop is vectorised.
+pub fn first_outputs(line: &[u8], sent: &mut [u8])
+    requires { ⌜ (length (now line) ≡ length (now sent) + 5) × (allBinary (now line) ≡ true) ⌝ }
+    ensures { λ _. ⌜ now (sent .exit) ≡ bytes (coded (take 1 acelp) (reverse (take 5 (bits (now (line .entry))))) (drop 5 (bits (now (line .entry))))) ⌝ }
+{
+    for i in 0..sent.len() {
+        sent[i] = line[i + 5] ^ (line[i + 4] ^ (line[i + 2] ^ line[i]));
+    }
+}
+
+// The same of G1.
+pub fn second_outputs(line: &[u8], sent: &mut [u8])
+    requires { ⌜ (length (now line) ≡ length (now sent) + 5) × (allBinary (now line) ≡ true) ⌝ }
+    ensures { λ _. ⌜ now (sent .exit) ≡ bytes (coded (drop 1 acelp) (reverse (take 5 (bits (now (line .entry))))) (drop 5 (bits (now (line .entry))))) ⌝ }
+{
+    for i in 0..sent.len() {
+        sent[i] = line[i + 5] ^ (line[i + 3] ^ (line[i + 2] ^ (line[i + 1] ^ line[i])));
     }
 }

@@ -1,62 +1,71 @@
--- `acelp_cc1::encoding::send` meets its contract: the steps passed are sent. Assumes nothing.
-use Prim.Native.Nat.{_-_}
-use native.Mathlib.Omega.{arith}
-use Rattle.bits.proofs.Binary.{binary-at}
-use Rattle.acelp_cc1.proofs.Sending.{Sending, sending-none, sending-more, sending-done}
+-- `acelp_cc1::encoding::send` meets its contract: what the generators send of the inputs after five zeros, by turns. Assumes nothing.
+use Rattle.bits.specs.Bits.{allBinary}
+use Rattle.acelp_cc1.proofs.Sending.{outputs-coded}
 use borrow.Author.Needs.{needs}
 use Rattle.acelp_cc1.proofs.encoding.send.Statement.{statement}
 use Rattle.acelp_cc1.proofs.encoding.send.Tie as tie
 
-abbrev Inv-loop : tie.InvT-loop
-Inv-loop inputs frame₀ state₀ step₀ frame state step = Sending inputs frame₀ frame state step
+slice-aggregate-copy-end : tie.Need-slice-aggregate-copy-end
+slice-aggregate-copy-end c = search needs
 
-abbrev μ-loop : tie.MeasureT-loop
-μ-loop inputs frame₀ state₀ step₀ frame state step = 108 - step
+copy-end-requires : tie.Need-copy-end-requires
+copy-end-requires c κs = search needs
 
-loop-holds : tie.Need-loop-holds Inv-loop μ-loop
-loop-holds c = sending-none _ _ (c .before .before .pre .2)
+slice-aggregate-first-outputs : tie.Need-slice-aggregate-first-outputs
+slice-aggregate-first-outputs c = search needs
 
-shared-slice-read-transition : tie.Need-shared-slice-read-transition Inv-loop μ-loop
-shared-slice-read-transition c = search needs
+slice-aggregate-first-outputs-2 : tie.Need-slice-aggregate-first-outputs-2
+slice-aggregate-first-outputs-2 c = search needs
 
-transition-requires : tie.Need-transition-requires Inv-loop μ-loop
-transition-requires c κs = (c .before .before .loop .inv .run .below, binary-at _ (c .before .before .before .before .before .pre .1) _ (omega arith))
+first-outputs-requires : tie.Need-first-outputs-requires
+unfolding allBinary
+first-outputs-requires c κs = search needs
 
-send-pair-requires : tie.Need-send-pair-requires Inv-loop μ-loop
-send-pair-requires c κs = (omega arith, c .before .before .before .before .before .loop .inv .size)
+slice-aggregate-second-outputs : tie.Need-slice-aggregate-second-outputs
+slice-aggregate-second-outputs c = search needs
 
-add-step : tie.Need-add-step Inv-loop μ-loop
-add-step c = search needs
+slice-aggregate-second-outputs-2 : tie.Need-slice-aggregate-second-outputs-2
+slice-aggregate-second-outputs-2 c = search needs
 
-loop-less : tie.Need-loop-less Inv-loop μ-loop
-loop-less c = search needs
+second-outputs-requires : tie.Need-second-outputs-requires
+unfolding allBinary
+second-outputs-requires c κs = search needs
 
-loop-again : tie.Need-loop-again Inv-loop μ-loop
-loop-again c =
-    let sent = c .before .before in
-    let taken = sent .before .before .before in
-    let loop = taken .before .before .before in
-    let begin = loop .before .before .before in
-    sending-more (begin .pre .0) (loop .loop .inv) (omega arith) (taken .transition .ensures) (sent .send-pair .ensures)
+slice-aggregate-send-runs : tie.Need-slice-aggregate-send-runs
+slice-aggregate-send-runs c = search needs
 
-same-length : tie.Need-same-length Inv-loop μ-loop
+slice-aggregate-send-runs-2 : tie.Need-slice-aggregate-send-runs-2
+slice-aggregate-send-runs-2 c = search needs
+
+send-runs-requires : tie.Need-send-runs-requires
+send-runs-requires c κs = search needs
+
+same-length : tie.Need-same-length
 same-length c = search needs
 
-returns : tie.Need-returns Inv-loop μ-loop
-returns c = sending-done (c .before .before .before .before .pre .0) (c .before .loop .inv) (omega arith)
+returns : tie.Need-returns
+returns c =
+    let sent = c .before .before in
+    let second = sent .before .before .before .before .before in
+    let first = second .before .before .before .before in
+    let copied = first .before .before .before .before in
+    let begin = copied .before .before .before .before in
+    sent .send-runs .ensures _ (outputs-coded (begin .args .inputs .now) (copied .copy-end .ensures) (first .first-outputs .ensures) (second .second-outputs .ensures))
 
 pub send-spec : {M : Type 1} → statement M
 send-spec =
     tie.close
     (tie.spec
-    Inv-loop
-    μ-loop
-    loop-holds
-    shared-slice-read-transition
-    transition-requires
-    send-pair-requires
-    add-step
-    loop-less
-    loop-again
+    slice-aggregate-copy-end
+    copy-end-requires
+    slice-aggregate-first-outputs
+    slice-aggregate-first-outputs-2
+    first-outputs-requires
+    slice-aggregate-second-outputs
+    slice-aggregate-second-outputs-2
+    second-outputs-requires
+    slice-aggregate-send-runs
+    slice-aggregate-send-runs-2
+    send-runs-requires
     same-length
     returns)

@@ -18,11 +18,11 @@ abbrev μ-loop : tie.MeasureT-loop
 loop-holds : tie.Need-loop-holds Inv-loop μ-loop
 loop-holds c = filling-none refl
 
+cast-information-position : tie.Need-cast-information-position Inv-loop μ-loop
+cast-information-position c = search needs
+
 information-position-requires : tie.Need-information-position-requires Inv-loop μ-loop
 information-position-requires c κs = search needs
-
-cast-places : tie.Need-cast-places Inv-loop μ-loop
-cast-places c = search needs
 
 array-write-places : tie.Need-array-write-places Inv-loop μ-loop
 array-write-places c = search needs
@@ -47,8 +47,8 @@ information-positions-spec =
     Inv-loop
     μ-loop
     loop-holds
+    cast-information-position
     information-position-requires
-    cast-places
     array-write-places
     add-i
     loop-less
