@@ -71,7 +71,7 @@ fn send_run(first: &[u8], second: &[u8], from: usize, frame: &mut [u8], at: usiz
     }
 }
 
-// Writes the pairs of 108 steps, but those of the last of each 27.
+// Writes the pairs of 108 steps, but for the last of each 27, which sends nothing.
 fn send_runs(first: &[u8], second: &[u8], frame: &mut [u8])
     requires { ⌜ (length (now first) ≡ 108) × (length (now second) ≡ 108) × (length (now frame) ≡ 260) ⌝ }
     ensures { λ _. ⌜ ((c : List Bool) → byTurns (now (first .entry)) (now (second .entry)) ≡ bytes c → now (frame .exit) ≡ bytes (sentOf c) ++ drop 208 (now (frame .entry))) ⌝ }
@@ -82,7 +82,7 @@ fn send_runs(first: &[u8], second: &[u8], frame: &mut [u8])
     send_run(first, second, 81, frame, 156);
 }
 
-// Writes the protected bits of the inputs, which follow five zeros.
+// Writes the protected bits of the inputs, before which five zeros stand for the register.
 fn send(inputs: &[u8], frame: &mut [u8])
     requires { ⌜ (length (now inputs) ≡ 108) × (allBinary (now inputs) ≡ true) × (length (now frame) ≡ 260) ⌝ }
     ensures { λ _. ⌜ now (frame .exit) ≡ bytes (sentOf (coded acelp (memoryLow 0) (bits (now (inputs .entry))))) ++ drop 208 (now (frame .entry)) ⌝ }

@@ -17,7 +17,7 @@ pub fn parity_positions() -> [u8; 7]
     CRC_POSITIONS
 }
 
-// The place in the inputs of a class-one bit, in bytes: so the loop over all of them is vectorised.
+// The place in the inputs of a class-one bit. In bytes, so that the compiler makes the list of all of them a constant.
 fn information_position(index: u8) -> u8
     requires { ⌜ index < 96 ⌝ }
     ensures { λ r. ⌜ (r ≡ informationPlace index) × (r < 108) ⌝ }
