@@ -12,8 +12,7 @@ use bits::exact;
 use bits::first;
 use bits::only_bits;
 use bits::unpack;
-use coding::acelp::first_outputs;
-use coding::acelp::second_outputs;
+use coding::acelp::line_outputs;
 use coding::checksum::checksum7_of_bits;
 ghost use mathlib.Core.Bool.{Bool, true};
 ghost use mathlib.Core.List.{List, _++_};
@@ -90,9 +89,8 @@ fn send(inputs: &[u8], frame: &mut [u8])
     let mut line = [0u8; 113];
     copy_end(inputs, 0, &mut line, 5);
     let mut first = [0u8; 108];
-    first_outputs(&line, &mut first);
     let mut second = [0u8; 108];
-    second_outputs(&line, &mut second);
+    line_outputs(&line, &mut first, &mut second);
     send_runs(&first, &second, frame);
 }
 

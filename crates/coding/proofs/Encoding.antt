@@ -17,7 +17,7 @@ use Rattle.coding.specs.Runs.{Ran}
 use Rattle.coding.proofs.Coded.{short, ran-none, ran-more}
 
 -- two places set one after the other
-pub take-set-two : (l : List ℕ) (k x y : ℕ) → k + 1 < length l → take (k + 2) (set (set l k x) (k + 1) y) ≡ take k l ++ (x ∷ y ∷ [])
+take-set-two : (l : List ℕ) (k x y : ℕ) → k + 1 < length l → take (k + 2) (set (set l k x) (k + 1) y) ≡ take k l ++ (x ∷ y ∷ [])
 take-set-two l k x y h =
     let m : List ℕ = set l k x in
     let e : length m ≡ length l = length-set l k x in

@@ -11,25 +11,18 @@ slice-aggregate-copy-end c = search needs
 copy-end-requires : tie.Need-copy-end-requires
 copy-end-requires c κs = search needs
 
-slice-aggregate-first-outputs : tie.Need-slice-aggregate-first-outputs
-slice-aggregate-first-outputs c = search needs
+slice-aggregate-line-outputs : tie.Need-slice-aggregate-line-outputs
+slice-aggregate-line-outputs c = search needs
 
-slice-aggregate-first-outputs-2 : tie.Need-slice-aggregate-first-outputs-2
-slice-aggregate-first-outputs-2 c = search needs
+slice-aggregate-line-outputs-2 : tie.Need-slice-aggregate-line-outputs-2
+slice-aggregate-line-outputs-2 c = search needs
 
-first-outputs-requires : tie.Need-first-outputs-requires
+slice-aggregate-line-outputs-3 : tie.Need-slice-aggregate-line-outputs-3
+slice-aggregate-line-outputs-3 c = search needs
+
+line-outputs-requires : tie.Need-line-outputs-requires
 unfolding allBinary
-first-outputs-requires c κs = search needs
-
-slice-aggregate-second-outputs : tie.Need-slice-aggregate-second-outputs
-slice-aggregate-second-outputs c = search needs
-
-slice-aggregate-second-outputs-2 : tie.Need-slice-aggregate-second-outputs-2
-slice-aggregate-second-outputs-2 c = search needs
-
-second-outputs-requires : tie.Need-second-outputs-requires
-unfolding allBinary
-second-outputs-requires c κs = search needs
+line-outputs-requires c κs = search needs
 
 slice-aggregate-send-runs : tie.Need-slice-aggregate-send-runs
 slice-aggregate-send-runs c = search needs
@@ -46,11 +39,10 @@ same-length c = search needs
 returns : tie.Need-returns
 returns c =
     let sent = c .before .before in
-    let second = sent .before .before .before .before .before in
-    let first = second .before .before .before .before in
-    let copied = first .before .before .before .before in
+    let outputs = sent .before .before .before .before .before .before in
+    let copied = outputs .before .before .before .before .before in
     let begin = copied .before .before .before .before in
-    sent .send-runs .ensures _ (outputs-coded (begin .args .inputs .now) (copied .copy-end .ensures) (first .first-outputs .ensures) (second .second-outputs .ensures))
+    sent .send-runs .ensures _ (outputs-coded (begin .args .inputs .now) (copied .copy-end .ensures) (outputs .line-outputs .ensures .0) (outputs .line-outputs .ensures .1))
 
 pub send-spec : {M : Type 1} → statement M
 send-spec =
@@ -58,12 +50,10 @@ send-spec =
     (tie.spec
     slice-aggregate-copy-end
     copy-end-requires
-    slice-aggregate-first-outputs
-    slice-aggregate-first-outputs-2
-    first-outputs-requires
-    slice-aggregate-second-outputs
-    slice-aggregate-second-outputs-2
-    second-outputs-requires
+    slice-aggregate-line-outputs
+    slice-aggregate-line-outputs-2
+    slice-aggregate-line-outputs-3
+    line-outputs-requires
     slice-aggregate-send-runs
     slice-aggregate-send-runs-2
     send-runs-requires
