@@ -14,7 +14,7 @@ use Rattle.coding.specs.Codes.{outputs, dcch}
 use Rattle.coding.specs.Registers.{memoryHigh}
 use Rattle.trellis.specs.Trellis.{doubles, stateMetric, candidate, decision}
 use Rattle.trellis.specs.Numbering.{newestHigh, predHigh}
-use Rattle.trellis.specs.Traceback.{traced}
+use Rattle.survivors.specs.Traceback.{traced}
 use Rattle.trellis.proofs.Registers.{register-high}
 use Rattle.reliability.specs.Reliability.{zeroF, finite, allFinite, magnitude, negative, bitCost}
 use Rattle.soft_step.specs.Branch.{pairCost, softBranch, softTrellis}

@@ -11,9 +11,9 @@ use Rattle.bits.specs.Bits.{bytes}
 use Rattle.bits.proofs.Filled.{drop-set-here}
 use Rattle.trellis.specs.Numbering.{newestHigh, predHigh}
 use Rattle.trellis.specs.Trellis.{doubles, decision}
-use Rattle.trellis.specs.Traceback.{traced}
+use Rattle.survivors.specs.Traceback.{traced}
 use Rattle.trellis.proofs.Registers.{register-high, high-bit}
-use Rattle.trellis.proofs.Survivors.{traced-word}
+use Rattle.survivors.proofs.Survivors.{traced-word}
 use Rattle.soft_step.specs.Branch.{softBranch, softStart, softTrellis}
 use Rattle.soft.specs.RustOrder.{highest}
 use Rattle.soft_step.specs.Step.{rowsAt, Decided}

@@ -5,7 +5,7 @@ use Prim.Native.Nat.{ℕ, zero, suc, _/_}
 use lib.Dec.{eqb}
 use lib.Ieee.{Float, inf, binary64, add, lt}
 use Rattle.trellis.specs.Numbering.{newestHigh}
-use Rattle.trellis.specs.Traceback.{traced}
+use Rattle.survivors.specs.Traceback.{traced}
 use Rattle.reliability.specs.Reliability.{finite}
 use Rattle.soft_step.specs.Branch.{softBranch, softStart}
 

@@ -18,7 +18,7 @@ ghost use mathlib.Core.List.{[], _∷_};
 ghost use Prim.Native.Nat.{ℕ, _*_, _/_, _<_, _≤_};
 ghost use lib.ListN.{length, replicate};
 ghost use lib.Ieee.{inf};
-ghost use Rattle.trellis.specs.Traceback.{traced};
+ghost use Rattle.survivors.specs.Traceback.{traced};
 ghost use Rattle.reliability.specs.Reliability.{zeroF};
 ghost use Rattle.soft.specs.RustOrder.{highest};
 ghost use Rattle.soft.specs.Soft.{SoftFound};

@@ -7,7 +7,7 @@ use Prim.Native.Nat.{ℕ, _+_, _%_, _<_, _≤_}
 use native.Mathlib.Omega.{arith}
 use native.Mathlib.Decide.{ℕ-discrete}
 use lib.ListN.{length, getD, replicate, getD-replicate}
-use Rattle.trellis.specs.Engine.{engine, Forwarded, Starts}
+use Rattle.survivors.specs.Engine.{engine, Forwarded, Starts}
 use Rattle.trellis.specs.Numbering.{newestLow}
 use Rattle.trellis.specs.Search.{Found, FoundFirst}
 use Rattle.trellis.specs.Words.{Leads, OfLength, stateAfter, wordMetric}

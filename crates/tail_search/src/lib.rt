@@ -4,7 +4,7 @@ use trellis::Outcome;
 ghost use mathlib.Core.Path.{_≡_};
 ghost use Prim.Native.Nat.{_+_, _<_};
 ghost use lib.ListN.{length};
-ghost use Rattle.trellis.specs.Engine.{Rows, branchBy};
+ghost use Rattle.survivors.specs.Engine.{Rows, branchBy};
 ghost use Rattle.trellis.specs.Search.{Found};
 ghost use Rattle.trellis.specs.Words.{OfLength};
 ghost use Rattle.tail_search.specs.Starts.{Bounds, Tried, betterOf, keptOf, tailMetric};
@@ -15,7 +15,7 @@ fn lower_bounds(rows: &[[u16; 64]], symbols: &[u8]) -> [u16; 32]
     ensures { λ r. ⌜ Bounds (branchBy (now (rows .entry)) (now (symbols .entry))) r ⌝ }
 {
     let mut predecessors = [[0u8; 32]; 65];
-    trellis::forward(rows, symbols, [0; 32], &mut predecessors)
+    survivors::forward(rows, symbols, [0; 32], &mut predecessors)
 }
 
 // The state of the lesser bound.
@@ -75,7 +75,7 @@ fn visit(
         return best;
     }
     let mut word = [0u8; 65];
-    let run = trellis::nearest_between(rows, symbols, start, start, &mut word);
+    let run = searches::nearest_between(rows, symbols, start, start, &mut word);
     better(best, run, &word, inputs)
 }
 
@@ -86,7 +86,7 @@ pub fn search(rows: &[[u16; 64]], symbols: &[u8], inputs: &mut [u8]) -> Outcome
 {
     let bounds = lower_bounds(rows, symbols);
     let first = lowest(&bounds);
-    let mut best = trellis::nearest_between(rows, symbols, first, first, inputs);
+    let mut best = searches::nearest_between(rows, symbols, first, first, inputs);
     for turn in 1..32 {
         best = visit(rows, symbols, &bounds, first, turn, best, inputs);
     }

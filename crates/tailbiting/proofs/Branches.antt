@@ -8,13 +8,13 @@ use lib.ListN.{length, getD, drop}
 use Rattle.bits.specs.Bits.{tally}
 use Rattle.bits.proofs.Tally.{drop-two}
 use Rattle.coding.specs.Codes.{coded, facch}
-use Rattle.trellis.specs.Engine.{branchBy, Rows}
+use Rattle.survivors.specs.Engine.{branchBy, Rows}
 use Rattle.trellis.specs.Numbering.{newestLow}
-use Rattle.trellis.specs.Places.{outputAt}
+use Rattle.places.specs.Places.{outputAt}
 use Rattle.trellis.specs.Search.{Found}
 use Rattle.trellis.specs.Words.{OfLength}
 use Rattle.trellis.specs.declared.Outcome.{Outcome}
-use Rattle.trellis.proofs.ByPlace.{RowAt, metric-coded, outputsAt}
+use Rattle.places.proofs.ByPlace.{RowAt, metric-coded, outputsAt}
 use Rattle.trellis.proofs.PathWord.{last-five}
 use Rattle.trellis.proofs.Registers.{register-low}
 use Rattle.trellis.proofs.Searching.{found-to}

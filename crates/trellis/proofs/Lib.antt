@@ -10,12 +10,3 @@ pub mod FreeStart
 pub mod Renumber
 pub mod Embed
 pub mod Doubles
-pub mod Select
-pub mod Filled
-pub mod Running
-pub mod ByPlace
-pub mod Survivors
-pub mod Tracing
-pub mod Finding
-pub mod Ends
-pub mod Deciding

@@ -4,7 +4,7 @@ use native.Mathlib.Omega.{arith}
 use mathlib.Core.Path.{_≡_}
 use lib.ListN.{length}
 use borrow.Author.Needs.{needs}
-use Rattle.trellis.specs.Engine.{branchBy}
+use Rattle.survivors.specs.Engine.{branchBy}
 use Rattle.trellis.specs.Search.{Found}
 use Rattle.tail_search.specs.Starts.{Tried, tailMetric}
 use Rattle.tail_search.proofs.Turns.{first-found, all-tried}

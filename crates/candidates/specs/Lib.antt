@@ -1,0 +1,2 @@
+-- Which of two candidates survives.
+pub mod Candidates

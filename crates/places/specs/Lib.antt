@@ -1,0 +1,2 @@
+-- The places of a row of branch metrics.
+pub mod Places

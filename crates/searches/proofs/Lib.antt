@@ -1,0 +1,4 @@
+-- The laws.
+pub mod Finding
+pub mod Ends
+pub mod Deciding

@@ -1,0 +1,2 @@
+-- The ends of a search over all ending states.
+pub mod Ends

@@ -1,0 +1,4 @@
+-- The laws.
+pub mod Running
+pub mod Survivors
+pub mod Tracing
