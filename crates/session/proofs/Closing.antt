@@ -11,9 +11,9 @@ use borrow.Author.Tests.{eq-eqb, ne-eqb}
 use lib.Dec.{eqb}
 use lib.ListN.{length, getD, take, List·getD-eq-default}
 use lib.Seq.{length-take-le}
-use Rattle.lines.specs.Printing.{codeText, totalText}
-use Rattle.lines.specs.Writing.{Put}
-use Rattle.lines.proofs.Stored.{put-then, put-nothing}
+use Rattle.printing.specs.Printing.{codeText, totalText}
+use Rattle.numerals.specs.Writing.{Put}
+use Rattle.numerals.proofs.Stored.{put-then, put-nothing}
 use Rattle.session.specs.declared.Fed.{Fed}
 use Rattle.session.specs.declared.Session.{Session}
 use Rattle.session.specs.declared.Tally.{Tally}

@@ -9,8 +9,8 @@ use native.Mathlib.Omega.{arith}
 use borrow.Author.Tests.{ne-eqb}
 use lib.ListN.{length, getD, take, drop, set, length-append, length-drop, length-set}
 use lib.Seq.{append-snoc, getD-drop, getD-take, length-take-le, sets, sets-eq, take-add, take-all, take-append-add, take-at, take-suc}
-use Rattle.lines.specs.Writing.{Put}
-use Rattle.lines.proofs.Stored.{put-then}
+use Rattle.numerals.specs.Writing.{Put}
+use Rattle.numerals.proofs.Stored.{put-then}
 use Rattle.text.specs.Lines.{LineEnd}
 use Rattle.session.specs.Output.{State}
 use Rattle.session.specs.Scanning.{Scan, grown, byteSeen, byteSaid, seen, heard}

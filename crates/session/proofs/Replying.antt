@@ -15,14 +15,15 @@ use Rattle.facch.specs.Decoding.{Decoding, decodeAnswer, erasableOf, lentErased
 use Rattle.facch.specs.declared.Decoded.{Decoded}
 use Rattle.facch_answers.specs.Answers.{decodeErasedOf}
 use Rattle.facch_answers.proofs.Meaning.{decoding-is}
-use Rattle.lines.specs.Commands.{parsed, digitBits, masked, observedBits}
-use Rattle.lines.specs.Printing.{replyText}
-use Rattle.lines.specs.declared.Command.{Command}
-use Rattle.lines.specs.declared.Command.the-variants as command
-use Rattle.lines.specs.declared.Reply.{Reply}
-use Rattle.lines.specs.declared.Reply.the-variants as reply
-use Rattle.lines.proofs.Forms.{parsed-long, parsed-cut}
-use Rattle.lines.proofs.Masked.{length-observed}
+use Rattle.parsing.specs.Commands.{parsed}
+use Rattle.masked_bits.specs.Masked.{digitBits, masked, observedBits}
+use Rattle.printing.specs.Printing.{replyText}
+use Rattle.parsing.specs.declared.Command.{Command}
+use Rattle.parsing.specs.declared.Command.the-variants as command
+use Rattle.printing.specs.declared.Reply.{Reply}
+use Rattle.printing.specs.declared.Reply.the-variants as reply
+use Rattle.parsing.proofs.Forms.{parsed-long, parsed-cut}
+use Rattle.masked_bits.proofs.Masked.{length-observed}
 use Rattle.sacch_receiver.specs.Receiver.{Moved, moved, outcomeAnswer, freshReceiver, pushOf}
 use Rattle.sacch_receiver.specs.declared.Pushed.{Pushed}
 use Rattle.sacch_receiver.specs.declared.SacchReceiver.{SacchReceiver}

@@ -7,9 +7,9 @@ use native.Mathlib.Omega.{arith}
 use borrow.Author.Tests.{ne-eqb}
 use lib.ListN.{length, getD, set, take, drop, length-set, length-take}
 use lib.Seq.{length-take-le, take-all}
-use Rattle.lines.specs.Printing.{replyText}
-use Rattle.lines.specs.Writing.{Put}
-use Rattle.lines.proofs.Stored.{put-then, put-nothing}
+use Rattle.printing.specs.Printing.{replyText}
+use Rattle.numerals.specs.Writing.{Put}
+use Rattle.numerals.proofs.Stored.{put-then, put-nothing}
 use Rattle.text.specs.Lines.{LineEnd}
 use Rattle.session.specs.declared.Fed.{Fed}
 use Rattle.session.specs.declared.Replied.{Replied}

@@ -6,8 +6,8 @@ use mathlib.Core.List.{List, [], _∷_, _++_, List·Memᴰ}
 use Prim.Native.Nat.{ℕ, _+_, _-_, _*_, _≤_}
 use lib.Dec.{eqb}
 use lib.ListN.{length, getD, take, drop}
-use Rattle.lines.specs.Printing.{codeText}
-use Rattle.lines.specs.Writing.{Put}
+use Rattle.printing.specs.Printing.{codeText}
+use Rattle.numerals.specs.Writing.{Put}
 use Rattle.session.specs.declared.Fed.{Fed}
 use Rattle.session.specs.declared.Session.{Session}
 use Rattle.session.specs.declared.Tally.{Tally}

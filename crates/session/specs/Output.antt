@@ -9,12 +9,13 @@ use Rattle.bits.specs.Refusals.{Answer, accepted, pending, rejected, refused}
 use Rattle.bits.specs.declared.Refusal.the-variants.{Line}
 use Rattle.facch.specs.Decoding.{Content}
 use Rattle.facch_answers.specs.Answers.{decodeErasedOf}
-use Rattle.lines.specs.Commands.{parsed, observedBits}
-use Rattle.lines.specs.Printing.{replyText, totalText, codeText}
-use Rattle.lines.specs.declared.Command.{Command}
-use Rattle.lines.specs.declared.Command.the-variants as command
-use Rattle.lines.specs.declared.Reply.{Reply}
-use Rattle.lines.specs.declared.Reply.the-variants as reply
+use Rattle.parsing.specs.Commands.{parsed}
+use Rattle.masked_bits.specs.Masked.{observedBits}
+use Rattle.printing.specs.Printing.{replyText, totalText, codeText}
+use Rattle.parsing.specs.declared.Command.{Command}
+use Rattle.parsing.specs.declared.Command.the-variants as command
+use Rattle.printing.specs.declared.Reply.{Reply}
+use Rattle.printing.specs.declared.Reply.the-variants as reply
 use Rattle.sacch_decoder.specs.declared.SacchWord.{SacchWord}
 use Rattle.sacch_receiver.specs.Receiver.{freshReceiver, pushOf}
 use Rattle.sacch_receiver.specs.declared.SacchReceiver.{SacchReceiver}

@@ -7,13 +7,13 @@ use crate::totals::added;
 use crate::totals::count;
 use crate::totals::put_closing;
 use crate::totals::sum;
-use lines::put_reply;
+use printing::put_reply;
 use sacch::SacchReceiver;
 use text::line_end;
 ghost use mathlib.Core.Path.{_≡_};
 ghost use Prim.Native.Nat.{_+_, _*_, _≤_, min};
 ghost use lib.ListN.{length};
-ghost use Rattle.lines.specs.Writing.{Put};
+ghost use Rattle.numerals.specs.Writing.{Put};
 ghost use Rattle.text.specs.Lines.{LineEnd};
 ghost use Rattle.session.specs.Contracts.{Closed, Kept, LineEnded, PartFed, PieceFed, Sound, begun, endText, viewOf};
 

@@ -7,7 +7,7 @@ mod totals;
 pub use feeding::feed;
 pub use feeding::finish;
 pub use feeding::start;
-use lines::Reply;
+use printing::Reply;
 use sacch::SacchReceiver;
 
 // What a line is answered, the receiver after it, and the colour code on it.

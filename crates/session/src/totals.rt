@@ -1,12 +1,12 @@
 // Totals of accepted words, and the lines that close the output.
 use crate::Tally;
-use lines::Reply;
-use lines::put_code;
-use lines::put_total;
+use printing::Reply;
+use printing::put_code;
+use printing::put_total;
 ghost use mathlib.Core.Path.{_≡_};
 ghost use Prim.Native.Nat.{_+_, _*_, _≤_, _<_};
 ghost use lib.ListN.{getD, length};
-ghost use Rattle.lines.specs.Writing.{Put};
+ghost use Rattle.numerals.specs.Writing.{Put};
 ghost use Rattle.session.specs.Output.{addedBy, closing, codeLines, counted, lowestFirst, noWord, oneWord, rateOf, summed};
 ghost use Rattle.session.specs.Contracts.{Light, codeLine};
 

@@ -1,7 +1,7 @@
 -- `reply_to` meets its contract: one law for each command. Assumes nothing.
 use mathlib.Core.Path.{sym, _∙_}
 use Prim.Native.Nat.{_-_}
-use Rattle.lines.proofs.Forms.{facch-long}
+use Rattle.parsing.proofs.Forms.{facch-long}
 use Rattle.session.specs.Output.{commandReplied}
 use Rattle.session.proofs.Replying.{word-replied, reset-replied, replied-at}
 use borrow.Author.Needs.{needs}

@@ -1,0 +1,2 @@
+-- The bits of an `F` line.
+pub mod Masked

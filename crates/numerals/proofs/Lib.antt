@@ -1,0 +1,3 @@
+-- The laws.
+pub mod Stored
+pub mod Numerals

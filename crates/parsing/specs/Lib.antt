@@ -1,0 +1,2 @@
+-- What a line asks for.
+pub mod Commands

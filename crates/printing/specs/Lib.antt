@@ -1,0 +1,2 @@
+-- The lines that answer.
+pub mod Printing
