@@ -11,7 +11,7 @@ use Rattle.bits.proofs.Binary.{bits-bytes}
 use Rattle.bits.proofs.Packed.{packed-below, packed-unpacked-below}
 use Rattle.coding.specs.Checksums.{checkBits, checksum7Of, speech}
 use Rattle.coding.proofs.Division.{checkBits-length}
-use Rattle.speech.specs.Frames.{bitsAt, parityPlaces, significantPlaces, parityOf}
+use Rattle.speech_inputs.specs.Inputs.{bitsAt, parityPlaces, significantPlaces, parityOf}
 use Rattle.bits.specs.Refusals.{Answer, accepted}
 use Rattle.speech.specs.Calls.{Told, statusOf}
 use Rattle.speech.specs.declared.CrcStatus.{CrcStatus}

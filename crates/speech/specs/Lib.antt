@@ -1,4 +1,3 @@
 -- VSELP speech frames: their channel bits, the runs of places that the code goes by, and the calls.
 pub mod Frames
-pub mod Runs
 pub mod Calls

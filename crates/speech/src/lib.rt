@@ -2,9 +2,6 @@
 // Ported from 136-bts, speech.rs, and changed (see NOTICE).
 mod decoding;
 mod encoding;
-mod inputs;
-mod runs;
-mod turns;
 
 use bits::Refusal;
 pub use decoding::decode_candidate;

@@ -3,3 +3,4 @@ pub mod VselpRoundTrip
 pub mod VselpOneAnswer
 pub mod AcelpRoundTrip
 pub mod AcelpOneAnswer
+pub mod VselpPlaces

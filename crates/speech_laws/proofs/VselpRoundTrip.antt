@@ -25,13 +25,15 @@ use Rattle.coding.proofs.Unique.{same-start}
 use Rattle.trellis.specs.Search.{Nearest, Ambiguous}
 use Rattle.trellis.specs.Words.{Terminated}
 use Rattle.viterbi.specs.Hard.{weight, weightFrom}
-use Rattle.speech.specs.Frames.{bitsAt, parityPlaces, parityOf, inputsWith, inputsOf, classOneOf, placed, protectedOf, isClassTwo, frameOf}
+use Rattle.speech_inputs.specs.Inputs.{bitsAt, parityPlaces, parityOf, inputsWith, inputsOf, classOneOf}
+use Rattle.speech_turns.specs.Turns.{placed, protectedOf, isClassTwo}
+use Rattle.speech.specs.Frames.{frameOf}
 use Rattle.speech.specs.Calls.{Told, Settled, Decoding, Encoding, lentEncode, lentDecode, frameWeight, statusOf}
 use Rattle.speech.specs.declared.CrcStatus.{CrcStatus}
 use Rattle.speech.specs.declared.CrcStatus.the-variants.{Valid}
 use Rattle.speech.proofs.Answering.{encode-fine}
-use Rattle.speech.proofs.InputBits.{inputs-length}
-use Rattle.speech.proofs.Places.{inputs-end, inputs-one, inputs-parity, inputs-significant, placed-two, placed-protected}
+use Rattle.speech_inputs.proofs.InputBits.{inputs-length}
+use Rattle.speech_laws.proofs.VselpPlaces.{inputs-end, inputs-one, inputs-parity, inputs-significant, placed-two, placed-protected}
 use Rattle.speech.proofs.Settling.{map-taken}
 use Rattle.speech.proofs.Statuses.{status-by}
 

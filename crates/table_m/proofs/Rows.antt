@@ -7,7 +7,7 @@ use Rattle.coding.specs.Checksums.{added, divided, checksumOf}
 use Rattle.acelp_cc1.specs.Frames.{informationPlace}
 use Rattle.dcch_wire.specs.Wire.{across, everySecond, wireOrder, cellAt}
 use Rattle.facch_slots.specs.Wire.{table, placeOf}
-use Rattle.speech.specs.Frames.{isClassTwo}
+use Rattle.speech_turns.specs.Turns.{isClassTwo}
 use Rattle.table_m.specs.TableM.{TableM}
 
 pub table-m : TableM

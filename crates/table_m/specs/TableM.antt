@@ -10,7 +10,7 @@ use Rattle.acelp_cc1.specs.Frames.{informationPlace}
 use Rattle.dcch_wire.specs.declared.BlockFormat.the-variants.{Forward}
 use Rattle.dcch_wire.specs.Wire.{cellAt}
 use Rattle.facch_slots.specs.Wire.{placeOf}
-use Rattle.speech.specs.Frames.{isClassTwo}
+use Rattle.speech_turns.specs.Turns.{isClassTwo}
 
 pub record TableM : Type 0 where
   -- a step: state, input, next state, outputs

@@ -1,0 +1,2 @@
+-- Runs of places.
+pub mod Runs

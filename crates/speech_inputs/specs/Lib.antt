@@ -1,0 +1,2 @@
+-- The inputs of a frame.
+pub mod Inputs

@@ -1,0 +1,2 @@
+-- The places of a frame.
+pub mod Turns
