@@ -1,7 +1,6 @@
 -- The laws.
-pub mod Replying
+pub mod Cut
 pub mod Whole
-pub mod Gathered
-pub mod Stepped
-pub mod Closing
 pub mod Unread
+pub mod Ended
+pub mod Ending

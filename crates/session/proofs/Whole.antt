@@ -7,10 +7,11 @@ use native.Mathlib.Numerals.{sub-one}
 use lib.Dec.{eqb, eqb·suc-zero}
 use lib.ListN.{length, take}
 use lib.Seq.{take-nil}
-use Rattle.session.specs.Output.{State, next, said, after, spoken, linesFrom, linesOf, fresh, closing, output}
+use Rattle.session.specs.Output.{State, next, said, after, spoken, linesFrom, linesOf, fresh, output}
+use Rattle.totals.specs.Totals.{closing}
 use Rattle.session.specs.Scanning.{Scan, ended, endSaid, grown, byteSeen, byteSaid, seen, heard, closed, closeSaid}
 use Rattle.session.specs.Contracts.{atStart, endText}
-use Rattle.session.proofs.Replying.{next-cut, said-cut}
+use Rattle.session.proofs.Cut.{next-cut, said-cut}
 
 -- ---- parts of the input one after the other
 pub seen-then : (xs ys : List ℕ) (c : Scan) → seen c (xs ++ ys) ≡ seen (seen c xs) ys

@@ -1,34 +1,15 @@
 -- What the functions do, in these terms.
 use mathlib.Core.Path.{_≡_}
-use mathlib.Core.Logic.{_≢_}
-use mathlib.Core.Bool.{cond}
-use mathlib.Core.List.{List, [], _∷_, _++_, List·Memᴰ}
+use mathlib.Core.List.{List, [], _++_}
 use Prim.Native.Nat.{ℕ, _+_, _-_, _*_, _≤_}
-use lib.Dec.{eqb}
 use lib.ListN.{length, getD, take, drop}
-use Rattle.printing.specs.Printing.{codeText}
 use Rattle.numerals.specs.Writing.{Put}
 use Rattle.session.specs.declared.Fed.{Fed}
 use Rattle.session.specs.declared.Session.{Session}
-use Rattle.session.specs.declared.Tally.{Tally}
-use Rattle.session.specs.Output.{closing, fresh}
+use Rattle.totals.specs.Totals.{closing}
+use Rattle.totals.specs.declared.Tally.{Tally}
+use Rattle.session.specs.Output.{fresh}
 use Rattle.session.specs.Scanning.{Scan, ended, endSaid, seen, heard, closed, closeSaid}
-
--- ---- the order of the `C` lines
--- no code twice
-abbrev pub Once : List ℕ → Type 0
-Once [] = Unit {0}
-Once (d ∷ order) = (List·Memᴰ d order → ⊥) × Once order
-
--- each code with accepted words once, and no other
-pub record EachOnce (counts order : List ℕ) : Type 0 where
-  pub once : Once order
-  pub only : (d : ℕ) → List·Memᴰ d order → getD counts d 0 ≢ 0
-  pub all : (d : ℕ) → getD counts d 0 ≢ 0 → List·Memᴰ d order
-
--- the line of a code, where it has words
-unfoldable pub codeLine : ℕ → ℕ → List ℕ
-codeLine d words = cond (eqb words 0) [] (codeText d words)
 
 -- ---- a session as a scan: `line` holds the line so far, `counts` the words of each code
 unfoldable pub viewOf : Session → List ℕ → List ℕ → Scan
@@ -49,12 +30,6 @@ pub record Modest (t : Tally) (left : ℕ) (counts : List ℕ) : Type 0 where
   pub coded : t .coded ≤ 260 * t .words
   pub codes : length counts ≡ 256
   pub each : (d : ℕ) → getD counts d 0 ≤ t .words
-
--- what one answer adds
-pub record Light (t : Tally) : Type 0 where
-  pub one : t .words ≤ 1
-  pub corrected : t .corrected ≤ 65535 * t .words
-  pub coded : t .coded ≤ 260 * t .words
 
 pub record Sound (s : Session) (line counts : List ℕ) : Type 0 where
   pub modest : Modest (s .tally) (s .left) counts

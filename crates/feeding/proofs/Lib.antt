@@ -1,0 +1,3 @@
+-- The laws.
+pub mod Gathered
+pub mod Stepped

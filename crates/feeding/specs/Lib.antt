@@ -1,0 +1,1 @@
+-- No definitions of its own: session/specs has what the functions do.

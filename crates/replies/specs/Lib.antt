@@ -1,0 +1,2 @@
+-- The reply to one line.
+pub mod Replies

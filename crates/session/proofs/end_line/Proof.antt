@@ -1,0 +1,59 @@
+-- `end_line` meets its contract: no line may be read, or the line is answered. Assumes nothing.
+use mathlib.Core.Path.{sym}
+use Prim.Native.Nat.{_-_}
+use native.Mathlib.Omega.{arith}
+use lib.Seq.{length-take-le}
+use Rattle.session.proofs.Ended.{line-none, line-some}
+use borrow.Author.Needs.{needs}
+use borrow.Author.Needs.{needs}
+use Rattle.session.proofs.end_line.Statement.{statement}
+use Rattle.session.proofs.end_line.Tie as tie
+
+returns : tie.Need-returns
+returns c = line-none _ _ _ _ _ (c .if1 .taken) (c .before .before .before .before .before .before .pre .0)
+
+slice-aggregate-reply-to : tie.Need-slice-aggregate-reply-to
+slice-aggregate-reply-to c = sym (length-take-le _ _ (search needs))
+
+reply-to-requires : tie.Need-reply-to-requires
+reply-to-requires c κs = search needs
+
+added-requires : tie.Need-added-requires
+added-requires c κs = search needs
+
+count-requires : tie.Need-count-requires
+count-requires c κs = (c .before .before .before .before .before .before .before .before .before .before .before .pre .0 .modest .codes, omega (arith, c .before .before .before .before .before .before .before .before .before .before .before .pre .0 .modest .each (c .before .before .before .reply-to .result .dvcc), c .before .before .before .before .before .before .before .before .before .before .before .pre .0 .modest .words, c .before .before .before .before .before .if1 .left), c .before .added .ensures .1 .one)
+
+put-reply-requires : tie.Need-put-reply-requires
+put-reply-requires c κs = search needs
+
+sum-requires : tie.Need-sum-requires
+sum-requires c κs = search needs
+
+sub-t25 : tie.Need-sub-t25
+sub-t25 c = search needs
+
+same-length : tie.Need-same-length
+same-length c = search needs
+
+same-length-2 : tie.Need-same-length-2
+same-length-2 c = search needs
+
+returns-2 : tie.Need-returns-2
+returns-2 c = line-some _ _ _ _ _ _ _ _ _ _ _ (c .before .before .before .before .before .before .before .before .before .before .before .before .before .if1 .left) (c .before .before .before .before .before .before .before .before .before .before .before .reply-to .ensures) (c .before .before .before .before .before .before .before .before .before .added .ensures .0) (c .before .before .before .before .before .before .before .before .before .added .ensures .1) (c .sum .ensures) (c .before .before .before .before .before .before .before .count .ensures) (c .before .before .before .put-reply .ensures .0) (c .before .before .before .put-reply .ensures .1) (c .before .before .before .before .before .before .before .before .before .before .before .before .before .before .before .before .before .before .before .pre .0)
+
+pub end-line-spec : {M : Type 1} → statement M
+end-line-spec =
+    tie.close
+    (tie.spec
+    returns
+    slice-aggregate-reply-to
+    reply-to-requires
+    added-requires
+    count-requires
+    put-reply-requires
+    sum-requires
+    sub-t25
+    same-length
+    same-length-2
+    returns-2)

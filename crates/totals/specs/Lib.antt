@@ -1,0 +1,2 @@
+-- Totals and closing lines.
+pub mod Totals
