@@ -5,9 +5,9 @@ ghost use Prim.Native.Nat.{_<_, _≤_};
 ghost use lib.ListN.{length};
 ghost use Rattle.bits.specs.Bits.{allBinary, bit, bits, bytes, differ, disagreements};
 ghost use Rattle.bits.specs.Numbers.{packed, unpacked};
-ghost use Rattle.bits.specs.Refusals.{actualOf, belowOf, binaryOf, exactOf, expectedOf, firstOf, numberOf, symbolUnless};
+ghost use Rattle.bits.specs.Refusals.{belowOf, binaryOf, exactOf, firstOf, symbolUnless};
 
-// Why a call is refused. `number` gives document 01's number of each.
+// Why a call is refused. `refusals::number` gives document 01's number of each.
 pub enum Refusal {
     // A lent slice is not of the exact length.
     Length { expected: usize, actual: usize },
@@ -19,63 +19,6 @@ pub enum Refusal {
     Reserved,
     Line,
     State,
-}
-
-// The number that document 01 gives a refusal.
-pub fn number(refusal: Refusal) -> u8
-    ensures { λ r. ⌜ r ≡ numberOf refusal ⌝ }
-{
-    match refusal {
-        Refusal::Length {
-            expected: _,
-            actual: _,
-        } => 1,
-        Refusal::Symbol => 2,
-        Refusal::Crc => 3,
-        Refusal::InsufficientObservations => 4,
-        Refusal::Ambiguous => 5,
-        Refusal::Reserved => 6,
-        Refusal::Line => 7,
-        Refusal::State => 8,
-    }
-}
-
-// The length that a Length expected; 0 of any other refusal.
-pub fn expected(refusal: Refusal) -> usize
-    ensures { λ r. ⌜ r ≡ expectedOf refusal ⌝ }
-{
-    match refusal {
-        Refusal::Length {
-            expected,
-            actual: _,
-        } => expected,
-        Refusal::Symbol => 0,
-        Refusal::Crc => 0,
-        Refusal::InsufficientObservations => 0,
-        Refusal::Ambiguous => 0,
-        Refusal::Reserved => 0,
-        Refusal::Line => 0,
-        Refusal::State => 0,
-    }
-}
-
-// The length that a Length met; 0 of any other refusal.
-pub fn actual(refusal: Refusal) -> usize
-    ensures { λ r. ⌜ r ≡ actualOf refusal ⌝ }
-{
-    match refusal {
-        Refusal::Length {
-            expected: _,
-            actual,
-        } => actual,
-        Refusal::Symbol => 0,
-        Refusal::Crc => 0,
-        Refusal::InsufficientObservations => 0,
-        Refusal::Ambiguous => 0,
-        Refusal::Reserved => 0,
-        Refusal::Line => 0,
-        Refusal::State => 0,
-    }
 }
 
 // Whether a call can go on with what it was lent.

@@ -22,11 +22,11 @@ pub fn part(n: u64) {
 
 pub fn refusal(why: Refusal) {
     text(b"refused");
-    part(bits::number(why) as u64);
+    part(refusals::number(why) as u64);
     text(b" (");
-    number(bits::expected(why) as u64);
+    number(refusals::expected(why) as u64);
     text(b",");
-    part(bits::actual(why) as u64);
+    part(refusals::actual(why) as u64);
     text(b")");
 }
 

@@ -1,8 +1,8 @@
 // What a call that writes bits answers, as a flat record: 0, or a number of document 01.
 use bits::Wrote;
-use bits::actual;
-use bits::expected;
-use bits::number;
+use refusals::actual;
+use refusals::expected;
+use refusals::number;
 ghost use mathlib.Core.Path.{_≡_};
 ghost use Rattle.bits.specs.Calls.{wroteAnswer};
 ghost use Rattle.flat_calls.specs.Calls.{flatWrote};

@@ -1,9 +1,9 @@
 // Flat functions over `coding`: one step of each code, and the checksums. Each answers a number of document 01, or 0 with its result.
 use bits::Lent;
 use bits::Refusal;
-use bits::number;
 use coding::checksum::Checked;
 use coding::checksum::CrcMode;
+use refusals::number;
 ghost use mathlib.Core.Path.{_≡_};
 ghost use Rattle.bits.specs.Bits.{bits};
 ghost use Rattle.coding.specs.Checksums.{answerOf, checksum7Of, checksumOf, ofBits};

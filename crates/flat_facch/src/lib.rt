@@ -1,12 +1,12 @@
 // Flat functions over `facch`: words and the slots that carry them. Each answers a number of document 01, or 0 with its result.
 use bits::Refusal;
-use bits::actual;
-use bits::expected;
-use bits::number;
 use facch::Decoded;
 use facch::WordHalf;
 use flat_calls::Written;
 use flat_calls::flat_wrote;
+use refusals::actual;
+use refusals::expected;
+use refusals::number;
 ghost use mathlib.Core.Path.{_≡_};
 ghost use Rattle.facch.specs.Decoding.{Decoding, decodeAnswer, lentDecode, lentErased};
 ghost use Rattle.facch_slots.specs.Wire.{Deinterleaving, Interleaving, Observing};

@@ -1,11 +1,11 @@
 // Flat functions over the speech frames of VSELP (`speech`) and ACELP CC1. Each answers a number of document 01, or 0 with its result.
 use acelp_slots::Interleaving;
 use bits::Refusal;
-use bits::actual;
-use bits::expected;
-use bits::number;
 use flat_calls::Written;
 use flat_calls::flat_wrote;
+use refusals::actual;
+use refusals::expected;
+use refusals::number;
 use speech::CrcStatus;
 ghost use mathlib.Core.Path.{_≡_};
 ghost use Rattle.acelp_cc1.specs.Calls as acelp_calls;

@@ -1,12 +1,12 @@
 // Flat functions over `viterbi`: the bare searches. Each answers a number of document 01, or 0 with its result.
 use bits::Lent;
 use bits::Refusal;
-use bits::actual;
 use bits::exact;
-use bits::expected;
 use bits::first;
-use bits::number;
 use bits::only_bits;
+use refusals::actual;
+use refusals::expected;
+use refusals::number;
 ghost use mathlib.Core.Path.{_≡_};
 ghost use lib.ListN.{length};
 ghost use Rattle.bits.specs.Bits.{bits};

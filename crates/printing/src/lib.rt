@@ -1,10 +1,10 @@
 // The lines that answer (document 01, 'The line program `frames`'), written into a lent buffer. Each function answers the place after what it wrote.
 use bits::Refusal;
-use bits::number;
 use numerals::put;
 use numerals::put_decimal;
 use numerals::put_hexadecimal;
 use numerals::put_two;
+use refusals::number;
 ghost use mathlib.Core.Path.{_≡_};
 ghost use mathlib.Core.List.{[], _∷_, _++_};
 ghost use Prim.Native.Nat.{_+_, _*_, _≤_};

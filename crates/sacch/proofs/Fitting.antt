@@ -18,8 +18,9 @@ use Rattle.sacch_encoder.specs.declared.SacchEncoder.{SacchEncoder}
 use Rattle.sacch_encoder.proofs.Fits as encoder
 use Rattle.sacch_decoder.specs.declared.SacchWord.{SacchWord}
 use Rattle.sacch_receiver.proofs.Fitting.{Fit}
-use Rattle.sacch_receiver.specs.Receiver.{receiverFits, lockFits, fieldStored, rowStored, locked, tries, trialLock, windowOf, decodeRows, tried, stepOf, Moved}
-use Rattle.sacch_receiver.specs.declared.Lock.{Lock}
+use Rattle.sacch_receiver.specs.Receiver.{receiverFits, fieldStored, rowStored, locked, trialLock, tried, stepOf, Moved}
+use Rattle.sacch_stored.specs.Stored.{lockFits, tries, windowOf, decodeRows}
+use Rattle.sacch_stored.specs.declared.Lock.{Lock}
 use Rattle.sacch_receiver.specs.declared.SacchReceiver.{SacchReceiver}
 
 -- ---- a call on a state that fits: only its number is left to test

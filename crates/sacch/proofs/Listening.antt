@@ -13,7 +13,8 @@ use Rattle.sacch_encoder.specs.Encoder.{fieldsFrom}
 use Rattle.sacch_encoder.specs.declared.SacchEncoder.{SacchEncoder}
 use Rattle.sacch_encoder.proofs.Fits.{fit-of}
 use Rattle.sacch_decoder.specs.declared.SacchWord.{SacchWord}
-use Rattle.sacch_receiver.specs.Receiver.{decodeRows, stepOf}
+use Rattle.sacch_stored.specs.Stored.{decodeRows}
+use Rattle.sacch_receiver.specs.Receiver.{stepOf}
 use Rattle.sacch_receiver.specs.declared.SacchReceiver.{SacchReceiver}
 use Rattle.sacch.specs.Calls.{EncoderCall, Given, fieldsSent, Push, answers}
 use Rattle.sacch.specs.Listening.{rowsFrom, sixesForAll, wordSent, Listened, heardRows, NoFalseWord, answer, Promised, ListeningRule}

@@ -17,7 +17,8 @@ use Rattle.diagonal.specs.Diagonal.{bitOf, rowOf}
 use Rattle.diagonal.proofs.Diagonal.{diagonal, diagonal-below, undone, row-of, twelve-same}
 use Rattle.diagonal.proofs.Rings.{after, after-start, after-then}
 use Rattle.sacch_decoder.specs.declared.SacchWord.{SacchWord}
-use Rattle.sacch_receiver.specs.Receiver.{fieldStored, rowStored, locked, tries, trialAnswer, trialLock, windowOf, decodeRows, tried, stepOf, Moved}
+use Rattle.sacch_receiver.specs.Receiver.{fieldStored, rowStored, locked, trialAnswer, trialLock, tried, stepOf, Moved}
+use Rattle.sacch_stored.specs.Stored.{tries, windowOf, decodeRows}
 use Rattle.sacch_receiver.specs.declared.SacchReceiver.{SacchReceiver}
 use Rattle.sacch.proofs.Fitting.{Fitting, step-fits, either}
 use Rattle.sacch.proofs.Trials.{Windows, Trials}

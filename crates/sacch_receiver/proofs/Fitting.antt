@@ -6,7 +6,8 @@ use lib.Dec.{ltb}
 use borrow.Author.Tests.{ltb-true}
 use Rattle.bits.proofs.Binary.{cond-and, cond-true}
 use Rattle.diagonal.specs.Diagonal.{allTwelve}
-use Rattle.sacch_receiver.specs.Receiver.{lockFits, receiverFits}
+use Rattle.sacch_stored.specs.Stored.{lockFits}
+use Rattle.sacch_receiver.specs.Receiver.{receiverFits}
 use Rattle.sacch_receiver.specs.declared.SacchReceiver.{SacchReceiver}
 
 -- every test made, from the last to the first

@@ -1,4 +1,3 @@
 -- The laws of the receiver that other crates cite.
-pub mod Unrolled
 pub mod Fitting
 pub mod Found

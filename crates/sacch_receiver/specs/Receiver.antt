@@ -1,21 +1,18 @@
--- The receiver's calls on values.
-use mathlib.Core.Bool.{Bool, true, false, cond}
-use mathlib.Core.List.{List, [], _∷_, _++_}
+-- The receiver's calls on values. sacch_stored/specs has its lock and its rows.
+use mathlib.Core.Bool.{Bool, false, cond}
 use Prim.Native.Nat.{ℕ, _+_, _%_, min}
-use lib.Dec.{ltb, eqb}
-use lib.ListN.{getD, set, replicate}
-use Rattle.bits.specs.Numbers.{unpacked}
-use Rattle.bits.specs.Places.{listed}
+use lib.Dec.{ltb}
+use lib.ListN.{set, replicate}
 use Rattle.bits.specs.Refusals.{Answer, accepted, pending, rejected, refused, firstOf, belowOf}
 use Rattle.bits.specs.declared.Lent.{Lent}
 use Rattle.bits.specs.declared.Lent.the-variants.{Fine, Refused}
 use Rattle.bits.specs.declared.Refusal.the-variants.{State}
 use Rattle.diagonal.specs.Diagonal.{allTwelve, rowOf}
-use Rattle.sacch_decoder.specs.Decoding.{decodeOf}
 use Rattle.sacch_decoder.specs.declared.SacchWord.{SacchWord}
 use Rattle.sacch_receiver.specs.declared.SacchReceiver.{SacchReceiver}
-use Rattle.sacch_receiver.specs.declared.Lock.{Lock}
-use Rattle.sacch_receiver.specs.declared.Lock.the-variants.{Unlocked, Locked}
+use Rattle.sacch_stored.specs.Stored.{lockFits, tries, windowOf, decodeRows}
+use Rattle.sacch_stored.specs.declared.Lock.{Lock}
+use Rattle.sacch_stored.specs.declared.Lock.the-variants.{Unlocked, Locked}
 use Rattle.sacch_receiver.specs.declared.Row.{Row}
 use Rattle.sacch_receiver.specs.declared.Row.the-variants.{Missing, Complete}
 use Rattle.sacch_receiver.specs.declared.ReceiveOutcome.{ReceiveOutcome}
@@ -37,10 +34,6 @@ freshReceiver = record {
   phase = 0;
   lock = Unlocked;
 }
-
-abbrev pub lockFits : Lock → Bool
-lockFits Unlocked = true
-lockFits (Locked phase) = ltb phase 11
 
 -- document 01, 'Numbers from the state': the states that refusal 8 lets pass
 unfoldable pub receiverFits : SacchReceiver → Bool
@@ -95,24 +88,6 @@ locked r lock = record {
 }
 
 -- ---- a trial
--- the bits of rows one after the other
-unfoldable pub rowBits : List ℕ → List Bool
-rowBits [] = []
-rowBits (row ∷ rows) = unpacked 12 row ++ rowBits rows
-
--- the eleven stored rows, oldest first
-unfoldable pub windowOf : List ℕ → ℕ → List ℕ
-windowOf rows next = listed 11 (λ (i : ℕ). getD rows ((next + i) % 11) 0)
-
--- what eleven rows decode to
-unfoldable pub decodeRows : List ℕ → ℕ → Answer SacchWord
-decodeRows rows dvcc = decodeOf (rowBits rows) dvcc
-
--- unlocked, each phase is tried; locked, that one
-abbrev pub tries : Lock → ℕ → Bool
-tries Unlocked phase = true
-tries (Locked at) phase = eqb at phase
-
 -- a refusal of rows already stored is a rejection
 abbrev pub trialAnswer : Answer SacchWord → Answer SacchWord
 trialAnswer (accepted word) = accepted word

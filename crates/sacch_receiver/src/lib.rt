@@ -2,16 +2,10 @@
 // Ported from 136-bts, sacch.rs, and changed (see NOTICE).
 mod receiver;
 mod state;
-mod window;
 
 use bits::Refusal;
 use sacch_decoder::SacchWord;
-
-// Whether words begin at a known phase: then only that phase is tried. A byte holds it, so that the lock has no padding, which costs at every move.
-pub enum Lock {
-    Unlocked,
-    Locked(u8),
-}
+pub use sacch_stored::Lock;
 
 // What twelve stored fields give: the row that the newest completes, or nothing yet.
 pub enum Row {

@@ -1,18 +1,18 @@
 // The receiver's calls. A record goes in by value and comes back; the last call is lent it.
 // Ported from 136-bts, sacch.rs, and changed (see NOTICE).
 use crate::Heard;
-use crate::Lock;
 use crate::Pushed;
 use crate::PushedWord;
 use crate::ReceiveOutcome;
 use crate::Row;
 use crate::SacchReceiver;
-use crate::state::lock_tries;
 use crate::state::receiver_fits;
-use crate::window::decode_window;
 use bits::Refusal;
 use diagonal::row_of;
 use sacch_decoder::Decoded;
+use sacch_stored::Lock;
+use sacch_stored::decode_window;
+use sacch_stored::lock_tries;
 ghost use mathlib.Core.Path.{_≡_};
 ghost use Prim.Native.Nat.{_+_, _<_, min};
 ghost use Rattle.sacch_decoder.specs.Decoding.{decodeAnswer};

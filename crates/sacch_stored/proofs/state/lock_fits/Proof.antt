@@ -1,9 +1,9 @@
--- `sacch_receiver::state::lock_fits` meets its contract, lock by lock. Assumes nothing.
+-- `sacch_stored::state::lock_fits` meets its contract, lock by lock. Assumes nothing.
 use mathlib.Core.Path.{sym, ap}
-use Rattle.sacch_receiver.specs.Receiver.{lockFits}
+use Rattle.sacch_stored.specs.Stored.{lockFits}
 use borrow.Author.Needs.{needs}
-use Rattle.sacch_receiver.proofs.state.lock_fits.Statement.{statement}
-use Rattle.sacch_receiver.proofs.state.lock_fits.Tie as tie
+use Rattle.sacch_stored.proofs.state.lock_fits.Statement.{statement}
+use Rattle.sacch_stored.proofs.state.lock_fits.Tie as tie
 
 enum-told : tie.Need-enum-told
 enum-told c = search needs

@@ -1,9 +1,9 @@
--- `sacch_receiver::state::stored_fit` meets its contract: the fields, and the rows. Assumes nothing.
+-- `sacch_stored::state::stored_fit` meets its contract: the fields, and the rows. Assumes nothing.
 use mathlib.Core.Bool.{_&&_}
 use mathlib.Core.Path.{ap₂, _∙_}
 use borrow.Author.Needs.{needs}
-use Rattle.sacch_receiver.proofs.state.stored_fit.Statement.{statement}
-use Rattle.sacch_receiver.proofs.state.stored_fit.Tie as tie
+use Rattle.sacch_stored.proofs.state.stored_fit.Statement.{statement}
+use Rattle.sacch_stored.proofs.state.stored_fit.Tie as tie
 
 slice-aggregate-all-twelve : tie.Need-slice-aggregate-all-twelve
 slice-aggregate-all-twelve c = search needs

@@ -8,7 +8,7 @@ ghost use Prim.Native.Nat.{_<_};
 ghost use lib.ListN.{length};
 ghost use Rattle.bits.specs.Bits.{bytes};
 ghost use Rattle.sacch_decoder.specs.Decoding.{decodeAnswer};
-ghost use Rattle.sacch_receiver.specs.Receiver.{decodeRows, rowBits, windowOf};
+ghost use Rattle.sacch_stored.specs.Stored.{decodeRows, rowBits, windowOf};
 
 // Writes the bits of the rows, oldest first; `next` is the place of the oldest.
 fn fill_window(rows: [u16; 11], next: usize, coded: &mut [u8])

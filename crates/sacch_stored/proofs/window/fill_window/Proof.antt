@@ -1,10 +1,10 @@
--- `sacch_receiver::window::fill_window` meets its contract: the rows passed stand at their places. Assumes nothing.
+-- `sacch_stored::window::fill_window` meets its contract: the rows passed stand at their places. Assumes nothing.
 use Prim.Native.Nat.{_-_}
 use native.Mathlib.Omega.{arith}
-use Rattle.sacch_receiver.proofs.Unrolled.{Unrolling, unrolling-none, unrolling-more, unrolling-done}
+use Rattle.sacch_stored.proofs.Unrolled.{Unrolling, unrolling-none, unrolling-more, unrolling-done}
 use borrow.Author.Needs.{needs}
-use Rattle.sacch_receiver.proofs.window.fill_window.Statement.{statement}
-use Rattle.sacch_receiver.proofs.window.fill_window.Tie as tie
+use Rattle.sacch_stored.proofs.window.fill_window.Statement.{statement}
+use Rattle.sacch_stored.proofs.window.fill_window.Tie as tie
 
 abbrev Inv-loop : tie.InvT-loop
 Inv-loop next coded₀ rows i₀ coded i = Unrolling rows next coded i

@@ -1,8 +1,8 @@
--- `sacch_receiver::window::decode_window` meets its contract: the bits are 132, so nothing is refused before the search. Assumes nothing.
-use Rattle.sacch_receiver.proofs.Found.{window-decoded}
+-- `sacch_stored::window::decode_window` meets its contract: the bits are 132, so nothing is refused before the search. Assumes nothing.
+use Rattle.sacch_stored.proofs.Decoded.{window-decoded}
 use borrow.Author.Needs.{needs}
-use Rattle.sacch_receiver.proofs.window.decode_window.Statement.{statement}
-use Rattle.sacch_receiver.proofs.window.decode_window.Tie as tie
+use Rattle.sacch_stored.proofs.window.decode_window.Statement.{statement}
+use Rattle.sacch_stored.proofs.window.decode_window.Tie as tie
 
 slice-aggregate-fill-window : tie.Need-slice-aggregate-fill-window
 slice-aggregate-fill-window c = search needs

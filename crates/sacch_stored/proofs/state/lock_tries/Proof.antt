@@ -1,10 +1,10 @@
--- `sacch_receiver::state::lock_tries` meets its contract, lock by lock. Assumes nothing.
+-- `sacch_stored::state::lock_tries` meets its contract, lock by lock. Assumes nothing.
 use mathlib.Core.Path.{sym, ap}
-use Rattle.sacch_receiver.specs.Receiver.{tries}
-use Rattle.sacch_receiver.specs.declared.Lock.{Lock}
+use Rattle.sacch_stored.specs.Stored.{tries}
+use Rattle.sacch_stored.specs.declared.Lock.{Lock}
 use borrow.Author.Needs.{needs}
-use Rattle.sacch_receiver.proofs.state.lock_tries.Statement.{statement}
-use Rattle.sacch_receiver.proofs.state.lock_tries.Tie as tie
+use Rattle.sacch_stored.proofs.state.lock_tries.Statement.{statement}
+use Rattle.sacch_stored.proofs.state.lock_tries.Tie as tie
 
 enum-told : tie.Need-enum-told
 enum-told c = search needs

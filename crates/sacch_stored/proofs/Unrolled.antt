@@ -13,7 +13,7 @@ use Rattle.bits.specs.Numbers.{unpacked}
 use Rattle.bits.proofs.Binary.{bytes-append}
 use Rattle.bits.proofs.Listed.{length-listed, getD-listed}
 use Rattle.bits.proofs.Packed.{unpacked-length}
-use Rattle.sacch_receiver.specs.Receiver.{rowBits, windowOf}
+use Rattle.sacch_stored.specs.Stored.{rowBits, windowOf}
 
 -- ---- the bits of rows
 row-bits-snoc : (rows : List ℕ) (row : ℕ) → rowBits (rows ++ (row ∷ [])) ≡ rowBits rows ++ unpacked 12 row

@@ -1,1 +1,0 @@
--- No definitions of its own: session/specs has what the functions do.

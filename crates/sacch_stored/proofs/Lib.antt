@@ -1,0 +1,3 @@
+-- The laws.
+pub mod Unrolled
+pub mod Decoded

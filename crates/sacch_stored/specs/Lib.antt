@@ -1,0 +1,2 @@
+-- What a receiver has stored.
+pub mod Stored
