@@ -1,7 +1,8 @@
 // FACCH words and the slots that carry them.
 use flat_calls::Written;
 use flat_facch::Word;
-ghost use Rattle.facch.specs.Decoding.{Decoding, lentDecode, lentErased};
+ghost use Rattle.facch.specs.Decoding.{Decoding};
+ghost use Rattle.facch_received.specs.Received.{lentDecode, lentErased};
 ghost use Rattle.facch_slots.specs.Wire.{Deinterleaving, Interleaving, Observing};
 ghost use Rattle.facch_slots.specs.declared.WordHalf.the-variants.{End, Start};
 ghost use Rattle.facch_word.specs.Words.{Encoding};

@@ -1,54 +1,24 @@
 -- Decoding of a word: the nearest word over the observed bits (IS-54-B 2.7.3.1.1). A byte 2 stands for a bit that was not observed.
 -- A word is its 65 bits, oldest first.
 use mathlib.Core.Path.{_≡_}
-use mathlib.Core.Bool.{Bool, true, false, cond}
-use mathlib.Core.List.{List, [], _∷_}
-use Prim.Native.Nat.{ℕ, _+_, _<_, _≤_}
-use lib.Dec.{eqb}
-use lib.ListN.{length, getD}
-use Rattle.bits.specs.Bits.{bytes, tally}
-use Rattle.bits.specs.Refusals.{Answer, accepted, refused, firstOf, exactOf, binaryOf}
+use mathlib.Core.Bool.{Bool, true, false}
+use mathlib.Core.List.{List}
+use Prim.Native.Nat.{ℕ, _<_, _≤_}
+use lib.ListN.{getD}
+use Rattle.bits.specs.Refusals.{Answer, accepted, refused}
 use Rattle.bits.specs.declared.Lent.{Lent}
 use Rattle.bits.specs.declared.Lent.the-variants.{Fine, Refused}
 use Rattle.bits.specs.declared.Refusal.{Refusal}
 use Rattle.bits.specs.declared.Refusal.the-variants as refusal
 use Rattle.trellis.specs.Search.{Nearest, Ambiguous}
 use Rattle.trellis.specs.Words.{OfLength}
-use Rattle.trellis.specs.declared.Outcome.{Outcome}
-use Rattle.tailbiting.specs.TailBiting.{allErasable, erasedDiffer}
 use Rattle.words.specs.Words as words
 use Rattle.words.specs.Words.{messageIn}
 use Rattle.facch.specs.declared.Decoded.{Decoded}
 use Rattle.facch.specs.declared.Decoded.the-variants as decoded
-use Rattle.facch_word.specs.Words.{tailBiting}
+use Rattle.facch_received.specs.Received.{observedCount}
+use Rattle.facch_search.specs.Search.{weight}
 
--- ---- what was received
--- 1 where a byte is observed
-unfoldable pub seen : ℕ → ℕ
-seen x = cond (eqb x 2) 0 1
-
--- the number of observed bytes
-unfoldable pub observedCount : List ℕ → ℕ
-observedCount [] = 0
-observedCount (x ∷ received) = seen x + observedCount received
-
--- the disagreements of a word over the observed bits
-unfoldable pub weight : List ℕ → List Bool → ℕ
-weight received w = tally erasedDiffer (tailBiting w) received
-
--- Symbol where a byte is above 2
-abbrev pub erasableOf : List ℕ → Lent
-erasableOf l = cond (allErasable l) Fine (Refused refusal.Symbol)
-
--- the length, then the symbols: bytes 0, 1 and 2
-abbrev pub lentErased : List ℕ → Lent
-lentErased coded = firstOf (exactOf 260 (length coded)) (erasableOf coded)
-
--- the same where every bit is observed: bytes 0 and 1
-abbrev pub lentDecode : List ℕ → Lent
-lentDecode coded = firstOf (exactOf 260 (length coded)) (binaryOf coded)
-
--- ---- what is answered
 -- the content of a word, the message as a number with its first bit highest
 pub record Content : Type 0 where
   pub continuation : Bool
@@ -92,12 +62,3 @@ pub record Answered (received : List ℕ) (dvcc : ℕ) (answer : Answer Content)
 pub record Decoding (lent : Lent) (received : List ℕ) (dvcc : ℕ) (answer : Answer Content) : Type 0 where
   pub declined : (why : Refusal) → lent ≡ Refused why → answer ≡ refused why
   pub answered : lent ≡ Fine → Answered received dvcc answer
-
--- ---- what the search writes: a nearest word, as bytes, its weight, and whether another weighs as little
-pub record Searched (received word : List ℕ) (r : Outcome) : Type 0 where
-  pub bits : List Bool
-  pub written : word ≡ bytes bits
-  pub nearest : Nearest (OfLength 65) (weight received) bits
-  pub metric : r .metric ≡ weight received bits
-  pub tied : r .tie ≡ true → Ambiguous (OfLength 65) (weight received)
-  pub alone : Ambiguous (OfLength 65) (weight received) → r .tie ≡ true

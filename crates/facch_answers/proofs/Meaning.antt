@@ -16,7 +16,9 @@ use Rattle.trellis.specs.Search.{Nearest, Ambiguous}
 use Rattle.trellis.specs.Words.{OfLength}
 use Rattle.nearest.specs.Nearest.{nearestWords}
 use Rattle.nearest.proofs.Members.{alone, shared, shared-back, at-least-one}
-use Rattle.facch.specs.Decoding.{Content, observedCount, weight, sound, contentOf, Finished, Settled, Answered, Decoding}
+use Rattle.facch.specs.Decoding.{Content, sound, contentOf, Finished, Settled, Answered, Decoding}
+use Rattle.facch_received.specs.Received.{observedCount}
+use Rattle.facch_search.specs.Search.{weight}
 use Rattle.facch_answers.specs.Answers.{nearestTo, finished, decodeErasedOf}
 
 -- ---- one word

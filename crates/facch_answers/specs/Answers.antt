@@ -7,7 +7,9 @@ use lib.ListN.{length, getD}
 use Rattle.bits.specs.Refusals.{Answer, accepted, refused}
 use Rattle.bits.specs.declared.Refusal.the-variants as refusal
 use Rattle.nearest.specs.Nearest.{nearestWords}
-use Rattle.facch.specs.Decoding.{Content, observedCount, weight, contentOf, sound}
+use Rattle.facch.specs.Decoding.{Content, contentOf, sound}
+use Rattle.facch_received.specs.Received.{observedCount}
+use Rattle.facch_search.specs.Search.{weight}
 
 -- the words of 65 bits with the fewest disagreements over the observed bits
 unfoldable pub nearestTo : List ℕ → List (List Bool)

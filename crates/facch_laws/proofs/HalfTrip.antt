@@ -19,9 +19,11 @@ use Rattle.bits.specs.declared.Wrote.{Wrote}
 use Rattle.slots.specs.Calls.{lentTwo}
 use Rattle.facch_slots.specs.Wire.{interleaved, observed, Interleaving, Observing}
 use Rattle.facch_word.specs.Words.{wordOf, tailBiting, Encoding}
-use Rattle.facch.specs.Decoding.{Content, observedCount, weight, lentErased, contentOf, Decoding}
+use Rattle.facch.specs.Decoding.{Content, contentOf, Decoding}
+use Rattle.facch_received.specs.Received.{observedCount, lentErased}
+use Rattle.facch_search.specs.Search.{weight}
 use Rattle.facch_slots.proofs.Answering.{fine-one}
-use Rattle.facch.proofs.Received.{fine-bytes}
+use Rattle.facch_received.proofs.Received.{fine-bytes}
 use Rattle.facch_laws.proofs.Halves.{slotted, carries, slotOf, observed-length, word-observed, half-count}
 use Rattle.facch_laws.proofs.Determined.{half-determines}
 use Rattle.facch_laws.proofs.RoundTrip.{agreed, erased-byte, biting-length, word-length, sound-own, content-own, written}

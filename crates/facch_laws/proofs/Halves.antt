@@ -21,10 +21,10 @@ use Rattle.slots.proofs.RoundTrip.{between-two}
 use Rattle.slots.proofs.Answering.{two-fine, two-bits, fine-two}
 use Rattle.facch_slots.specs.Wire.{table, placeOf, placeAt, wireOf, interleaved, deinterleaved, observed, Interleaving, Deinterleaving}
 use Rattle.bits.specs.Calls.{wroteAnswer}
-use Rattle.facch.specs.Decoding.{seen, observedCount}
+use Rattle.facch_received.specs.Received.{seen, observedCount}
 use Rattle.facch_slots.proofs.Table.{wire-below, place-of-wire}
 use Rattle.facch_slots.proofs.Interleaved.{interleaved-length, deinterleaved-length, interleaved-at, deinterleaved-at, binary-interleaved}
-use Rattle.facch.proofs.Received.{not-seen, is-one}
+use Rattle.facch_received.proofs.Received.{not-seen, is-one}
 
 module _ {A : Type 0} (d : A) where
   -- what a slot carries of a word: its even rows of the one before it, its odd rows of its own

@@ -24,9 +24,11 @@ use Rattle.bits.specs.declared.Wrote.{Wrote}
 use Rattle.words.specs.Words.{madeOf}
 use Rattle.words.proofs.Made.{made-length, made-sound, made-message}
 use Rattle.facch_word.specs.Words.{wordOf, tailBiting, Encoding}
-use Rattle.facch.specs.Decoding.{Content, seen, observedCount, weight, lentErased, lentDecode, contentOf, sound, Settled, Decoding}
+use Rattle.facch.specs.Decoding.{Content, contentOf, sound, Settled, Decoding}
+use Rattle.facch_received.specs.Received.{seen, observedCount, lentErased, lentDecode}
+use Rattle.facch_search.specs.Search.{weight}
 use Rattle.bits.proofs.Refusing.{exact-fine, binary-fine, below-fine}
-use Rattle.facch.proofs.Received.{binary-erasable, fine-bytes}
+use Rattle.facch_received.proofs.Received.{binary-erasable, fine-bytes}
 use Rattle.facch_laws.proofs.Determined.{whole-determines}
 
 -- ---- a word that agrees with what was observed, where no other does

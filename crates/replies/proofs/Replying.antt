@@ -11,7 +11,8 @@ use Rattle.bits.specs.Refusals.{firstOf, exactOf}
 use Rattle.bits.specs.declared.Lent.the-variants.{Fine, Refused}
 use Rattle.bits.specs.declared.Refusal.the-variants.{Symbol}
 use Rattle.tailbiting.specs.TailBiting.{allErasable}
-use Rattle.facch.specs.Decoding.{Decoding, decodeAnswer, erasableOf, lentErased}
+use Rattle.facch.specs.Decoding.{Decoding, decodeAnswer}
+use Rattle.facch_received.specs.Received.{erasableOf, lentErased}
 use Rattle.facch.specs.declared.Decoded.{Decoded}
 use Rattle.facch_answers.specs.Answers.{decodeErasedOf}
 use Rattle.facch_answers.proofs.Meaning.{decoding-is}

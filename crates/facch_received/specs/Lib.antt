@@ -1,0 +1,2 @@
+-- What was received.
+pub mod Received

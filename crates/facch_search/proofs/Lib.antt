@@ -1,0 +1,3 @@
+-- The laws.
+pub mod Rotating
+pub mod Turned

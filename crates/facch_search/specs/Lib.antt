@@ -1,0 +1,2 @@
+-- The search for the nearest word.
+pub mod Search
