@@ -13,11 +13,10 @@ use Rattle.replies.specs.declared.Replied.{Replied}
 use Rattle.session.specs.declared.Session.{Session}
 use Rattle.totals.specs.declared.Tally.{Tally}
 use Rattle.session.specs.Output.{next, said}
-use Rattle.totals.specs.Totals.{addedBy, counted, summed}
+use Rattle.totals.specs.Totals.{addedBy, counted, summed, Light}
 use Rattle.replies.specs.Replies.{replyTo}
 use Rattle.session.specs.Scanning.{ended, endSaid}
 use Rattle.session.specs.Contracts.{LineEnded, Modest, Sound, viewOf}
-use Rattle.totals.specs.Totals.{Light}
 
 -- ---- totals stay modest
 each-set : (l : List ℕ) (d v k m : ℕ) → getD l k 0 ≤ m → v ≤ m → getD (set l d v) k 0 ≤ m

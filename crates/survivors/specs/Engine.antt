@@ -1,20 +1,19 @@
 -- The forward recursion over the engine's arrays, a step for each symbol.
 use mathlib.Core.Path.{_≡_}
-use mathlib.Core.Bool.{Bool, true, false, cond}
+use mathlib.Core.Bool.{Bool, true, false}
 use mathlib.Core.List.{List, []}
-use Prim.Native.Nat.{ℕ, zero, suc, _+_, _*_, _/_, _%_, _≤_, _<_}
-use lib.Dec.{ltb, eqb}
+use Prim.Native.Nat.{ℕ, _+_, _*_, _/_, _%_, _≤_, _<_}
 use lib.ListN.{length, getD}
 use Rattle.bits.specs.Bits.{byte}
 use Rattle.trellis.specs.Numbering.{predLow, newestLow}
 use Rattle.trellis.specs.Trellis.{Trellis, wholes, stateMetric, candidate}
 use Rattle.candidates.specs.Candidates.{byteOf}
 
--- the step k has the row of its symbol
 -- the place in a row of the step from s with the input b
 abbrev pub slotFrom : ℕ → Bool → ℕ
 slotFrom s b = s % 16 + s / 16 * 32 + byte b * 16
 
+-- the step k has the row of its symbol
 unfoldable pub branchBy : List (List ℕ) → List ℕ → ℕ → ℕ → Bool → ℕ
 branchBy rows symbols k s b = getD (getD rows (getD symbols k 0) []) (slotFrom s b) 0
 

@@ -14,8 +14,7 @@ use Rattle.printing.specs.Printing.{codeText, totalText}
 use Rattle.numerals.specs.Writing.{Put}
 use Rattle.numerals.proofs.Stored.{put-then, put-nothing}
 use Rattle.totals.specs.declared.Tally.{Tally}
-use Rattle.totals.specs.Totals.{closing, codeLines, lowestFirst, rateOf}
-use Rattle.totals.specs.Totals.{EachOnce, Once, codeLine}
+use Rattle.totals.specs.Totals.{closing, codeLines, lowestFirst, rateOf, EachOnce, Once, codeLine}
 
 -- ---- the rate
 pub rate-none : (t : Tally) → t .coded ≡ 0 → 0 ≡ rateOf t

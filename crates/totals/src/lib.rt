@@ -6,8 +6,7 @@ ghost use mathlib.Core.Path.{_≡_};
 ghost use Prim.Native.Nat.{_+_, _*_, _≤_, _<_};
 ghost use lib.ListN.{getD, length};
 ghost use Rattle.numerals.specs.Writing.{Put};
-ghost use Rattle.totals.specs.Totals.{addedBy, closing, codeLines, counted, lowestFirst, noWord, oneWord, rateOf, summed};
-ghost use Rattle.totals.specs.Totals.{Light, codeLine};
+ghost use Rattle.totals.specs.Totals.{Light, addedBy, closing, codeLine, codeLines, counted, lowestFirst, noWord, oneWord, rateOf, summed};
 
 // Accepted words, their corrected bits and their coded bits.
 pub struct Tally {
