@@ -2,41 +2,37 @@
 // Ported from 136-bts, sacch.rs, and changed (see NOTICE).
 use bits::both;
 ghost use mathlib.Core.Path.{_≡_};
-ghost use Prim.Native.Nat.{ℕ, _%_, _<_};
-ghost use lib.ListN.{getD, length};
-ghost use Rattle.bits.specs.Bits.{byte};
-ghost use Rattle.diagonal.specs.Diagonal.{allTwelve, bitOf, fieldOf, rowOf};
+ghost use Prim.Native.Nat.{_+_, _%_, _^_, _<_, _≤_};
+ghost use lib.ListN.{length};
+ghost use Rattle.diagonal.specs.Diagonal.{allTwelve, fieldOf, rowOf};
 
-// Bit j of a row or field.
-fn bit_of(x: u16, j: usize) -> u16
-    requires { ⌜ j < 12 ⌝ }
-    ensures { λ r. ⌜ (r ≡ byte (bitOf x j)) × (r < 2) ⌝ }
+// The weight of a place of the ring that is turned up by `turn`.
+fn weight(place: usize, turn: usize) -> u16
+    requires { ⌜ (place < 12) × (turn ≤ 12) ⌝ }
+    ensures { λ r. ⌜ r ≡ 2 ^ ((place + turn) % 12) ⌝ }
 {
-    (x >> (11 - j)) % 2
+    let first: u16 = 1 << place;
+    ((first << turn) % 4096) | (first >> (12 - turn))
 }
 
-// A ring written twice, one after the other: a run of twelve from any place needs no turn.
-fn twice(ring: [u16; 12]) -> [u16; 24]
-    ensures { λ r. ⌜ (length r ≡ 24) × ((k : ℕ) → k < 24 → getD r k 0 ≡ getD ring (k % 12) 0) ⌝ }
+// The field of the newest row's slot, from the last twelve rows; `next` is the place of the oldest. The weights turn, and the rows stay.
+pub fn field_among(rows: &[u16], next: usize) -> u16
+    requires { ⌜ (length (now rows) ≡ 12) × (next < 12) ⌝ }
+    ensures { λ r. ⌜ r ≡ fieldOf (now (rows .entry)) next ⌝ }
 {
-    let mut run = [0u16; 24];
-    for i in 0..24 {
-        run[i] = ring[i % 12];
+    let mut field: u16 = 0;
+    for i in 0..12 {
+        field = field | (rows[i] & weight(i, 12 - next));
     }
-    run
+    field
 }
 
-// The field of the newest row's slot, from the ring of the last twelve rows; `next` is the place of the oldest.
+// The same of a ring.
 pub fn field_of(rows: [u16; 12], next: usize) -> u16
     requires { ⌜ next < 12 ⌝ }
     ensures { λ r. ⌜ r ≡ fieldOf rows next ⌝ }
 {
-    let run = twice(rows);
-    let mut field: u16 = 0;
-    for j in 0..12 {
-        field = field * 2 + bit_of(run[next + (11 - j)], j);
-    }
-    field
+    field_among(&rows, next)
 }
 
 // The row that the last twelve fields complete; `next` is the place of the oldest.
@@ -44,10 +40,9 @@ pub fn row_of(fields: [u16; 12], next: usize) -> u16
     requires { ⌜ next < 12 ⌝ }
     ensures { λ r. ⌜ r ≡ rowOf fields next ⌝ }
 {
-    let run = twice(fields);
     let mut row: u16 = 0;
-    for j in 0..12 {
-        row = row * 2 + bit_of(run[next + j], j);
+    for i in 0..12 {
+        row = row | (fields[i] & weight(11 - i, next));
     }
     row
 }

@@ -1,16 +1,20 @@
 -- The loop over a word's eleven slots: the sixes below k are encoded, and their fields made. Assumes nothing.
 use mathlib.Core.Path.{_≡_, refl, sym, ap, ap₂, _∙_}
 use mathlib.Core.List.{List, [], _∷_, _++_}
-use Prim.Native.Nat.{ℕ, _+_, _≤_, _<_}
+use Prim.Native.Nat.{ℕ, zero, suc, _+_, _≤_, _<_}
 use native.Mathlib.Numerals.{add-one}
 use native.Mathlib.Omega.{arith}
 use lib.ListN.{length, take, set, length-set}
 use lib.Seq.{take-suc-set, take-all}
 use Rattle.bits.specs.Places.{listed}
-use Rattle.diagonal.proofs.Gathering.{listed-snoc}
 use Rattle.sacch_encoder.specs.Encoder.{encoded, encodedAll, fieldsFrom, fieldNow}
 use Rattle.sacch_encoder.specs.declared.SacchEncoder.{SacchEncoder}
 use Rattle.sacch_encoder.proofs.Fits.{memory-next, cursor-next}
+
+listed-snoc : {A : Type 0} (n : ℕ) (f : ℕ → A) → listed (suc n) f ≡ listed n f ++ (f n ∷ [])
+unfolding listed
+listed-snoc zero f = refl
+listed-snoc {A} (suc n) f = ap (λ (l : List A). f 0 ∷ l) (listed-snoc n (λ i. f (suc i)))
 
 -- one six more at the end
 pub all-snoc : (sixes : List ℕ) (six : ℕ) (e : SacchEncoder) → encodedAll e (sixes ++ (six ∷ [])) ≡ encoded (encodedAll e sixes) six

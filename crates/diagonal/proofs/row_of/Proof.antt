@@ -1,56 +1,49 @@
--- `diagonal::row_of` meets its contract: the row so far is the number of the bits gathered. Assumes nothing.
-use mathlib.Core.Path.{ap}
-use Prim.Native.Nat.{ℕ, _+_, _-_}
+-- `diagonal::row_of` meets its contract: each place passed gave the bit of its weight. Assumes nothing.
+use mathlib.Core.Path.{refl}
+use Prim.Native.Nat.{ℕ, _+_, _-_, _%_}
 use native.Mathlib.Omega.{arith}
-use lib.ListN.{getD}
-use Rattle.diagonal.specs.Diagonal.{bitOf, rowOf}
-use Rattle.diagonal.proofs.Gathering.{Gathering, gathering-none, gathering-room, gathering-more, gathering-done}
+use Rattle.diagonal.specs.Diagonal.{rowOf}
+use Rattle.diagonal.proofs.Weighing.{Weighing, weighing-none, weighing-more, weighing-done}
 use borrow.Author.Needs.{needs}
 use Rattle.diagonal.proofs.row_of.Statement.{statement}
 use Rattle.diagonal.proofs.row_of.Tie as tie
 
 abbrev Inv-loop : tie.InvT-loop
-Inv-loop next run row₀ j₀ row j = Gathering (λ (k : ℕ). bitOf (getD run (next + k) 0) k) row j
+Inv-loop next fields row₀ i₀ row i = Weighing (λ (t : ℕ). (next + (11 - t)) % 12) fields row i
 
 abbrev μ-loop : tie.MeasureT-loop
-μ-loop next run row₀ j₀ row j = 12 - j
-
-twice-requires : tie.Need-twice-requires Inv-loop μ-loop
-twice-requires c κs = search needs
+μ-loop next fields row₀ i₀ row i = 12 - i
 
 loop-holds : tie.Need-loop-holds Inv-loop μ-loop
-loop-holds c = gathering-none
+loop-holds c = weighing-none
 
 mul-row : tie.Need-mul-row Inv-loop μ-loop
-mul-row c = omega (arith, gathering-room (c .before .loop .inv) (omega arith))
+mul-row c = search needs
 
-add-bit-of : tie.Need-add-bit-of Inv-loop μ-loop
-add-bit-of c = search needs
+array-read-row : tie.Need-array-read-row Inv-loop μ-loop
+array-read-row c = search needs
 
-mul-bit-of : tie.Need-mul-bit-of Inv-loop μ-loop
-mul-bit-of c = search needs
+sub-weight : tie.Need-sub-weight Inv-loop μ-loop
+sub-weight c = search needs
 
-array-read-bit-of : tie.Need-array-read-bit-of Inv-loop μ-loop
-array-read-bit-of c = search needs
+weight-requires : tie.Need-weight-requires Inv-loop μ-loop
+weight-requires c κs = search needs
 
-bit-of-requires : tie.Need-bit-of-requires Inv-loop μ-loop
-bit-of-requires c κs = search needs
-
-add-row : tie.Need-add-row Inv-loop μ-loop
-add-row c = omega (arith, gathering-room (c .before .before .loop .inv) (omega arith), c .bit-of .ensures .1)
-
-add-j : tie.Need-add-j Inv-loop μ-loop
-add-j c = search needs
+add-i : tie.Need-add-i Inv-loop μ-loop
+add-i c = search needs
 
 loop-less : tie.Need-loop-less Inv-loop μ-loop
 loop-less c = search needs
 
 loop-again : tie.Need-loop-again Inv-loop μ-loop
-loop-again c = gathering-more (c .before .before .loop .inv) (omega arith) (c .bit-of .ensures .0)
+loop-again c =
+    let at = c .before .before .loop in
+    let next = c .before .before .before .args .next in
+    weighing-more (at .inv) ((11 - at .i + next) % 12) (omega arith) (omega arith) (omega arith) (λ t h e. omega arith) refl (c .weight .ensures)
 
 returns : tie.Need-returns Inv-loop μ-loop
 unfolding rowOf
-returns c = gathering-done (c .before .loop .inv) (omega arith) (λ j h. ap (λ (x : ℕ). bitOf x j) (c .before .before .twice .ensures .1 _ (omega (arith, c .before .before .before .pre))))
+returns c = weighing-done (c .before .loop .inv) (omega arith) _ (λ j h. omega arith) (λ t. omega arith)
 
 pub row-of-spec : {M : Type 1} → statement M
 row-of-spec =
@@ -58,15 +51,12 @@ row-of-spec =
     (tie.spec
     Inv-loop
     μ-loop
-    twice-requires
     loop-holds
     mul-row
-    add-bit-of
-    mul-bit-of
-    array-read-bit-of
-    bit-of-requires
-    add-row
-    add-j
+    array-read-row
+    sub-weight
+    weight-requires
+    add-i
     loop-less
     loop-again
     returns)
