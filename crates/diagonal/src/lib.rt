@@ -2,17 +2,29 @@
 // Ported from 136-bts, sacch.rs, and changed (see NOTICE).
 use bits::both;
 ghost use mathlib.Core.Path.{_≡_};
-ghost use Prim.Native.Nat.{_+_, _%_, _^_, _<_, _≤_};
-ghost use lib.ListN.{length};
+ghost use Prim.Native.Nat.{ℕ, _+_, _%_, _^_, _<_, _≤_};
+ghost use lib.ListN.{getD, length};
 ghost use Rattle.diagonal.specs.Diagonal.{allTwelve, fieldOf, rowOf};
 
-// The weight of a place of the ring that is turned up by `turn`.
+// The weight of a bit that is `turn` places above `place`, round in twelve.
 fn weight(place: usize, turn: usize) -> u16
     requires { ⌜ (place < 12) × (turn ≤ 12) ⌝ }
     ensures { λ r. ⌜ r ≡ 2 ^ ((place + turn) % 12) ⌝ }
 {
     let first: u16 = 1 << place;
     ((first << turn) % 4096) | (first >> (12 - turn))
+}
+
+// A ring laid out from its oldest on, with room for the numbers of eleven slots more.
+pub fn aged(ring: &[u16], next: usize) -> [u16; 23]
+    requires { ⌜ (length (now ring) ≡ 12) × (next < 12) ⌝ }
+    ensures { λ r. ⌜ (length r ≡ 23) × ((k : ℕ) → k < 12 → getD r k 0 ≡ getD (now (ring .entry)) ((next + k) % 12) 0) ⌝ }
+{
+    let mut run = [0u16; 23];
+    for i in 0..12 {
+        run[i] = ring[(next + i) % 12];
+    }
+    run
 }
 
 // The field of the newest row's slot, from the last twelve rows; `next` is the place of the oldest. The weights turn, and the rows stay.

@@ -55,17 +55,11 @@ module _ {memory next : ℕ} (six : List ℕ) {out : List ℕ} (size : length si
   inputs-again : unpacked 6 (packed (bits six)) ≡ bits six
   inputs-again = ap (λ (n : ℕ). unpacked n (packed (bits six))) (sym (length-map six bit ∙ size)) ∙ unpacked-packed (bits six)
 
-  pub row-binary : allBinary out ≡ true
-  row-binary = ap allBinary (run .bits) ∙ binary-bytes (coded dcch (memoryHigh memory) (bits six))
-
   pub row-coded : packed (bits out) ≡ codedRow memory (packed (bits six))
   unfolding codedRow
   row-coded =
       ap (λ (l : List ℕ). packed (bits l)) (run .bits) ∙ ap packed (bits-bytes (coded dcch (memoryHigh memory) (bits six)))
       ∙ ap (λ (u : List Bool). packed (coded dcch (memoryHigh memory) u)) (sym inputs-again)
-
-  pub row-small : packed (bits out) < 4096
-  row-small = subst (λ (n : ℕ). n < 4096) (sym row-coded) (row-below memory (packed (bits six)))
 
   pub memory-coded : next ≡ memoryAfter memory (packed (bits six))
   memory-coded =

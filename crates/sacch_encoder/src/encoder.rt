@@ -4,12 +4,14 @@ use crate::EncodedField;
 use crate::EncodedWord;
 use crate::SacchEncoder;
 use crate::word::code_six;
+use crate::word::fields_of;
 use bits::Lent;
 use bits::Refusal;
 use bits::Wrote;
 use bits::below;
 use bits::first;
 use bits::unpack;
+use diagonal::aged;
 use diagonal::all_twelve;
 use diagonal::field_of;
 use words::complete;
@@ -118,21 +120,27 @@ impl SacchEncoder {
         }
     }
 
-    // The fields of a word's eleven slots.
+    // The fields of a word's eleven slots: all rows first, beside the ring in the order of their slots, so that no store is read at once.
     fn with_word(mut self, word: &[u8]) -> EncodedWord
         requires { ⌜ (self .memory < 32) × (self .cursor < 12) × (length (now word) ≡ 66) × (allBinary (now word) ≡ true) ⌝ }
         ensures { λ r. ⌜ (wroteAnswer (r .outcome) ≡ accepted tt) × (r .encoder ≡ encodedAll self (sixesOf (bits (now (word .entry))))) × (r .fields ≡ fieldsFrom self (sixesOf (bits (now (word .entry))))) ⌝ }
     {
-        let mut fields = [0u16; 11];
+        let rows = self.rows;
+        let next = self.cursor;
+        let mut run = aged(&rows, next);
         for i in 0..11 {
-            let at = 6 * i;
-            self = self.with_six(&word[at..at + 6]);
-            fields[i] = self.field();
+            let from = 6 * i;
+            let coded = code_six(self.memory, &word[from..from + 6]);
+            let at = self.cursor;
+            self.memory = coded.memory;
+            self.rows[at] = coded.row;
+            self.cursor = (at + 1) % 12;
+            run[12 + i] = coded.row;
         }
         EncodedWord {
             outcome: Wrote::Done,
             encoder: self,
-            fields,
+            fields: fields_of(&run),
         }
     }
 
