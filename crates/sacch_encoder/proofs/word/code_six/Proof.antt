@@ -34,7 +34,7 @@ array-read-row : tie.Need-array-read-row Inv-loop μ-loop
 array-read-row c = search needs
 
 mul-row-2 : tie.Need-mul-row-2 Inv-loop μ-loop
-mul-row-2 c = omega (arith, output-below (c .before .transition .ensures) 0)
+mul-row-2 c = omega (arith, output-below (c .before .transition .ensures) 0, output-below (c .before .transition .ensures) 1)
 
 array-read-row-2 : tie.Need-array-read-row-2 Inv-loop μ-loop
 array-read-row-2 c = search needs
