@@ -1,4 +1,5 @@
 // What the three register steps share.
+// Ported from 136-bts, dcch.rs, and changed (see NOTICE).
 ghost use mathlib.Core.Path.{_≡_};
 ghost use Prim.Native.Nat.{_%_};
 ghost use lib.Bits.{bitAnd};
