@@ -6,11 +6,13 @@ use std::fmt::Write;
 use std::fs;
 use std::process::exit;
 
-/// The median nanoseconds a call of the port and of the original.
+/// The median nanoseconds a call of the port, of the original and of libosmocore's two forms, where
+/// the case has them.
 struct Row {
     case: String,
     port: f64,
     original: f64,
+    osmocore: [Option<f64>; 2],
 }
 
 fn main() {
@@ -33,7 +35,7 @@ fn read(path: &str) -> String {
     fs::read_to_string(path).unwrap_or_else(|error| stop(&format!("{path}: {error}")))
 }
 
-/// Each case with the port's line first and the original's after it; other contenders are left out.
+/// Each case with the port's line first and the original's after it.
 fn rows(run: &str) -> Vec<Row> {
     let mut rows: Vec<Row> = vec![];
     for line in run.lines().skip(1) {
@@ -47,9 +49,12 @@ fn rows(run: &str) -> Vec<Row> {
                 case: case.into(),
                 port: median,
                 original: f64::NAN,
+                osmocore: [None; 2],
             }),
             ("rust" | "rust+checksum", Some(row)) if row.case == case => row.original = median,
-            _ => {}
+            ("osmocore-k6", Some(row)) if row.case == case => row.osmocore[0] = Some(median),
+            ("osmocore-k7", Some(row)) if row.case == case => row.osmocore[1] = Some(median),
+            _ => stop(&format!("no contender of the case before: {line}")),
         }
     }
     rows.retain(|row| !row.original.is_nan());
@@ -77,9 +82,13 @@ fn grouped(number: u64) -> String {
     groups.join(",")
 }
 
+fn nanoseconds(time: f64) -> String {
+    grouped(time.round() as u64)
+}
+
 fn table(rows: &[Row], counts: &HashMap<String, u64>) -> String {
     let mut out = String::from(
-        "| case | port, ns | original, ns | original / port | port, instructions | original, instructions |\n|---|---|---|---|---|---|\n",
+        "| case | port, ns | original, ns | original / port | libosmocore, K = 6, ns | K = 7, ns | port, instructions | original, instructions |\n|---|---|---|---|---|---|---|---|\n",
     );
     for row in rows {
         let count = |who: &str| {
@@ -92,11 +101,13 @@ fn table(rows: &[Row], counts: &HashMap<String, u64>) -> String {
         };
         writeln!(
             out,
-            "| {} | {} | {} | {:.2} | {} | {} |",
+            "| {} | {} | {} | {:.2} | {} | {} | {} | {} |",
             row.case,
-            grouped(row.port.round() as u64),
-            grouped(row.original.round() as u64),
+            nanoseconds(row.port),
+            nanoseconds(row.original),
             row.original / row.port,
+            row.osmocore[0].map_or(String::new(), nanoseconds),
+            row.osmocore[1].map_or(String::new(), nanoseconds),
             count("port"),
             count("rust")
         )
