@@ -1,5 +1,5 @@
 -- The loop that takes the bit of each weight from its place of a ring, the places in order. Assumes nothing.
-use mathlib.Core.Path.{_≡_, refl, sym, _∙_, ap, ap₂, subst}
+use mathlib.Core.Path.{_≡_, refl, sym, _∙_, ap, ap₂}
 use mathlib.Core.Bool.{Bool, true, false, _&&_, _||_}
 use mathlib.Core.List.{List}
 use Prim.Native.Nat.{ℕ, zero, suc, _+_, _-_, _/_, _%_, _^_, _≤_, _<_}
@@ -7,7 +7,7 @@ use native.Mathlib.Decide.{ℕ-discrete}
 use native.Mathlib.Omega.{arith}
 use borrow.Author.Tests.{eq-eqb, ne-eqb}
 use lib.Bits.{bitAnd, bitOr, and-shr, and-mod, and-le-r, or-shr, or-mod, or-lt}
-use lib.Dec.{eqb, T}
+use lib.Dec.{eqb}
 use lib.ListN.{getD}
 use lib.Pow as pow
 use Rattle.bits.specs.Bits.{bit}
