@@ -32,19 +32,14 @@ fn encoded() {
     tally.end();
 }
 
-#[track_caller]
-fn decoded(frame: &[bool; CHANNEL_BITS]) -> Frame {
-    decode(&bytes(frame), SPEECH)
-}
-
 #[test]
 fn damaged() {
-    tried::damaged("ACELP decode, frames", 0xacd, &FRAMES, decoded);
+    tried::damaged("ACELP decode, frames", 0xacd, &FRAMES);
 }
 
 #[test]
 fn every_kind() {
-    tried::every_kind("ACELP decode, every kind", 0xacf, &FRAMES, decoded);
+    tried::every_kind("ACELP decode, every kind", 0xacf, &FRAMES);
 }
 
 fn compare_slots(three: &[[bool; CHANNEL_BITS]; 3], mode: Interleaving) {

@@ -46,19 +46,14 @@ fn encoded() {
     tally.end();
 }
 
-#[track_caller]
-fn decoded(frame: &[bool; CHANNEL_BITS]) -> Frame {
-    decode(&bytes(frame), CLASS_ONE_BITS, CLASS_TWO_BITS)
-}
-
 #[test]
 fn damaged() {
-    tried::damaged("VSELP decode, frames", 0x5bd, &FRAMES, decoded);
+    tried::damaged("VSELP decode, frames", 0x5bd, &FRAMES);
 }
 
 #[test]
 fn every_kind() {
-    tried::every_kind("VSELP decode, every kind", 0x5bf, &FRAMES, decoded);
+    tried::every_kind("VSELP decode, every kind", 0x5bf, &FRAMES);
 }
 
 fn compare_slots(a: &[bool; CHANNEL_BITS], b: &[bool; CHANNEL_BITS]) {

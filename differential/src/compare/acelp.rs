@@ -25,6 +25,7 @@ pub const FRAMES: Codec = Codec {
     inputs: INPUTS,
     sent: |p| coded(&p.array()),
     placed,
+    decode: |frame| decode(&bytes(frame), SPEECH),
 };
 
 /// The Rust's frame.

@@ -1,6 +1,7 @@
 //! What the decoders of both speech codecs are tried on: frames as sent with wrong bits in them,
 //! and blocks of every kind put into frames.
 use crate::blocks::{Ends, KINDS, Kind, flip};
+use crate::port_speech::Frame as Answer;
 use crate::prng::Prng;
 
 pub const FRAME: usize = 260;
@@ -17,6 +18,8 @@ pub struct Codec {
     pub sent: fn(&mut Prng) -> Frame,
     /// A frame with these coded bits, and any that are not protected.
     pub placed: fn(&mut Prng, &[bool]) -> Frame,
+    /// What both sides answer to a frame.
+    pub decode: fn(&Frame) -> Answer,
 }
 
 impl Codec {
@@ -44,25 +47,21 @@ impl Codec {
     }
 }
 
-/// The trials of a decoder that answers by `Frame` of the port, with what its answers must hold.
+/// The trials, with what the answers must hold.
 pub mod tried {
-    use super::{Codec, Frame, KINDS, Kind, MOST_WRONG, Prng};
+    use super::{Codec, KINDS, Kind, MOST_WRONG, Prng};
     use crate::calls::FrameAnswers;
-    use crate::port_speech;
     use crate::tally::Tally;
 
     #[track_caller]
-    pub fn damaged(
-        name: &'static str,
-        seed: u64,
-        codec: &Codec,
-        decode: fn(&Frame) -> port_speech::Frame,
-    ) {
+    pub fn damaged(name: &'static str, seed: u64, codec: &Codec) {
         let mut p = Prng(seed);
         let mut tally = Tally::new(name);
         for flips in 0..=MOST_WRONG {
             let mut answers = FrameAnswers::default();
-            codec.damaged(&mut p, flips, 2500, |frame| answers.count(&decode(frame)));
+            codec.damaged(&mut p, flips, 2500, |frame| {
+                answers.count(&(codec.decode)(frame))
+            });
             assert!(flips > 0 || answers.valid == answers.calls());
             let what = format!("{flips} wrong bits, {}", answers.text());
             tally.part(&what, answers.calls());
@@ -71,17 +70,14 @@ pub mod tried {
     }
 
     #[track_caller]
-    pub fn every_kind(
-        name: &'static str,
-        seed: u64,
-        codec: &Codec,
-        decode: fn(&Frame) -> port_speech::Frame,
-    ) {
+    pub fn every_kind(name: &'static str, seed: u64, codec: &Codec) {
         let mut p = Prng(seed);
         let mut tally = Tally::new(name);
         for kind in KINDS {
             let mut answers = FrameAnswers::default();
-            codec.of_kind(&mut p, kind, 4000, |frame| answers.count(&decode(frame)));
+            codec.of_kind(&mut p, kind, 4000, |frame| {
+                answers.count(&(codec.decode)(frame))
+            });
             assert!(kind != Kind::Near || answers.ambiguous > 0);
             assert!(kind != Kind::Noise || answers.failed > 0);
             tally.part(&format!("{kind:?}, {}", answers.text()), answers.calls());

@@ -21,6 +21,7 @@ pub const FRAMES: Codec = Codec {
     inputs: INPUTS,
     sent: |p| rust::encode(&any_bits(p)),
     placed,
+    decode: |frame| decode(&bytes(frame), CLASS_ONE_BITS, CLASS_TWO_BITS),
 };
 
 #[track_caller]
