@@ -12,7 +12,7 @@ use Rattle.bits.specs.Numbers.{unpacked}
 use Rattle.bits.specs.Places.{placeIn}
 use Rattle.bits.proofs.Binary.{bits-take, bytes-bits}
 use Rattle.bits.proofs.Listed.{length-listed, getD-listed}
-use Rattle.coding.specs.Checksums.{checksum7Of}
+use Rattle.checksums.specs.Checksums.{checksum7Of}
 use Rattle.acelp_cc1.specs.Frames.{informationPlaces, parityPlaces, parityOf, inputsOf}
 use Rattle.acelp_cc1.specs.Places.{put}
 use Rattle.acelp_cc1.proofs.Placing.{put-at, put-length, information-size}

@@ -13,7 +13,7 @@ use Rattle.bits.specs.Places.{listed, placeIn}
 use Rattle.bits.proofs.Listed.{getD-listed, is-listed}
 use Rattle.bits.proofs.Packed.{unpacked-length}
 use Rattle.bits.proofs.Tested.{below, sameBit, sameBit-eq}
-use Rattle.coding.specs.Checksums.{checksum7Of}
+use Rattle.checksums.specs.Checksums.{checksum7Of}
 use Rattle.trellis.specs.Words.{Terminated}
 use Rattle.acelp_cc1.specs.Calls.{sound}
 use Rattle.acelp_cc1.specs.Frames.{informationPlace, informationPlaces, parityPlaces, parityOf, inputsOf, classOneOf, checkOf}

@@ -15,8 +15,8 @@ use Rattle.bits.proofs.Binary.{bits-bytes, bytes-bits, bits-take, binary-bytes,
 use Rattle.bits.proofs.LentPart.{became}
 use Rattle.bits.proofs.Listed.{length-listed, getD-listed, map-taken, is-listed}
 use Rattle.bits.proofs.Packed.{packed-below, packed-unpacked-below}
-use Rattle.coding.specs.Checksums.{checksum7Of, checkBits, speech}
-use Rattle.coding.proofs.Division.{checkBits-length}
+use Rattle.checksums.specs.Checksums.{checksum7Of, checkBits, speech}
+use Rattle.checksums.proofs.Division.{checkBits-length}
 use Rattle.acelp_cc1.specs.Calls.{Told, Finished, sound}
 use Rattle.acelp_cc1.specs.Frames.{speechOrder, informationPlace, informationPlaces, parityPlaces, parityOf, classOneOf, checkOf, unordered}
 use Rattle.acelp_cc1.specs.Places.{taken, put}

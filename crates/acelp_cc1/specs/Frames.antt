@@ -8,7 +8,7 @@ use Rattle.bits.specs.Numbers.{unpacked}
 use Rattle.bits.specs.Places.{listed, placeIn}
 use Rattle.coding.specs.Codes.{coded, acelp}
 use Rattle.coding.specs.Registers.{memoryLow}
-use Rattle.coding.specs.Checksums.{checksum7Of}
+use Rattle.checksums.specs.Checksums.{checksum7Of}
 use Rattle.puncturing.specs.Punctured.{sentOf}
 
 -- ---- the speech order, Table 4.2, as the original has it: the place in the codec's frame of each ordered bit

@@ -13,7 +13,7 @@ use bits::exact;
 use bits::first;
 use bits::only_bits;
 use bits::pack;
-use coding::checksum::checksum7_of_bits;
+use checksums::checksum7_of_bits;
 use puncturing::punctured;
 ghost use mathlib.Core.Bool.{true};
 ghost use mathlib.Core.List.{_++_};

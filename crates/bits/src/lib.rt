@@ -1,4 +1,6 @@
 // Bits as bytes 0 and 1, numbers as bits, and the refusals that every crate answers with. The contracts cite specs/.
+pub mod refusals;
+
 ghost use mathlib.Core.Path.{_≡_};
 ghost use mathlib.Core.Bool.{true, _&&_};
 ghost use Prim.Native.Nat.{_<_, _≤_};
@@ -7,7 +9,7 @@ ghost use Rattle.bits.specs.Bits.{allBinary, bit, bits, bytes, differ, d
 ghost use Rattle.bits.specs.Numbers.{packed, unpacked};
 ghost use Rattle.bits.specs.Refusals.{belowOf, binaryOf, exactOf, firstOf, symbolUnless};
 
-// Why a call is refused. `refusals::number` gives document 01's number of each.
+// Why a call is refused. `crate::refusals::number` gives document 01's number of each.
 pub enum Refusal {
     // A lent slice is not of the exact length.
     Length { expected: usize, actual: usize },

@@ -1,8 +1,8 @@
 // DCCH blocks.
 use flat_dcch::Block;
-ghost use Rattle.dcch_block.specs.Blocks.{Decoding, Encoding};
+ghost use Rattle.dcch.specs.Blocks.{Decoding, Encoding};
 ghost use Rattle.dcch.specs.SoftBlocks.{SoftDecoding};
-ghost use Rattle.dcch_wire.specs.declared.BlockFormat.the-variants.{Forward, ReverseAbbreviated, ReverseNormal};
+ghost use Rattle.dcch_interleaver.specs.declared.BlockFormat.the-variants.{Forward, ReverseAbbreviated, ReverseNormal};
 ghost use Rattle.flat_coding.specs.Flat.{modeOf};
 ghost use Rattle.flat_dcch.specs.Blocks.{FlatDecoded, FlatEncoded};
 

@@ -1,13 +1,13 @@
 // Speech frames of VSELP and ACELP CC1, and the slots that carry them.
-use flat_calls::Written;
+use flat_coding::calls::Written;
 use flat_speech::Frame;
 ghost use Rattle.acelp_cc1.specs.Calls as acelp_calls;
-ghost use Rattle.acelp_slots.specs.Wire as acelp_wire;
-ghost use Rattle.acelp_slots.specs.declared.Interleaving.the-variants.{One, Two, Three};
-ghost use Rattle.flat_calls.specs.Calls.{FlatWrote};
+ghost use Rattle.acelp_interleaver.specs.Wire as acelp_wire;
+ghost use Rattle.acelp_interleaver.specs.declared.Interleaving.the-variants.{One, Two, Three};
+ghost use Rattle.flat_coding.specs.Calls.{FlatWrote};
 ghost use Rattle.flat_speech.specs.Frames.{FlatFrame, acelpFrame, vselpFrame};
 ghost use Rattle.speech.specs.Calls as vselp_calls;
-ghost use Rattle.speech_slots.specs.Wire as vselp_wire;
+ghost use Rattle.speech_interleaver.specs.Wire as vselp_wire;
 
 #[no_mangle]
 pub extern "C" fn bts136_speech_encode(

@@ -7,18 +7,18 @@ mod words;
 
 use flat_coding::Checksum;
 use flat_coding::Step;
-use flat_viterbi::Search;
+use flat_coding::search::Search;
 ghost use mathlib.Core.Path.{_≡_};
 ghost use lib.ListN.{length};
 ghost use Rattle.bits.specs.Bits.{bits};
-ghost use Rattle.coding.specs.Checksums.{checksum7Of, checksumOf, ofBits};
+ghost use Rattle.checksums.specs.Checksums.{checksum7Of, checksumOf, ofBits};
 ghost use Rattle.coding.specs.Codes.{acelp, dcch, facch};
 ghost use Rattle.coding.specs.Registers.{memoryHigh, memoryLow};
 ghost use Rattle.trellis.specs.Search.{Found, FoundFirst};
 ghost use Rattle.trellis.specs.Words.{OfLength, Terminated};
 ghost use Rattle.viterbi.specs.Hard.{freeWeight, weight};
 ghost use Rattle.flat_coding.specs.Flat.{StepAnswer, flatChecksum, modeOf};
-ghost use Rattle.flat_viterbi.specs.Flat.{SearchAnswer};
+ghost use Rattle.flat_coding.specs.FlatSearch.{SearchAnswer};
 
 // One step of the code of DCCH, SACCH and VSELP.
 #[no_mangle]
@@ -65,7 +65,7 @@ pub extern "C" fn bts136_checksum7(information: &[u8]) -> Checksum
 pub extern "C" fn bts136_viterbi(coded: &[u8], word: &mut [u8]) -> Search
     ensures { λ r. ⌜ SearchAnswer (FoundFirst (Terminated (length (now (word .entry)))) (weight (bits (now (coded .entry))))) (now (coded .entry)) (now (word .entry)) (now (word .exit)) r ⌝ }
 {
-    flat_viterbi::terminated(coded, word)
+    flat_coding::search::terminated(coded, word)
 }
 
 // A nearest word over all 32 starting memories: the bare search of SACCH.
@@ -73,5 +73,5 @@ pub extern "C" fn bts136_viterbi(coded: &[u8], word: &mut [u8]) -> Search
 pub extern "C" fn bts136_viterbi_free(coded: &[u8], word: &mut [u8]) -> Search
     ensures { λ r. ⌜ SearchAnswer (Found (OfLength (length (now (word .entry)))) (freeWeight (bits (now (coded .entry))))) (now (coded .entry)) (now (word .entry)) (now (word .exit)) r ⌝ }
 {
-    flat_viterbi::free(coded, word)
+    flat_coding::search::free(coded, word)
 }

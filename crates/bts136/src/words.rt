@@ -1,12 +1,12 @@
 // FACCH words and the slots that carry them.
-use flat_calls::Written;
+use flat_coding::calls::Written;
 use flat_facch::Word;
 ghost use Rattle.facch.specs.Decoding.{Decoding};
-ghost use Rattle.facch_received.specs.Received.{lentDecode, lentErased};
-ghost use Rattle.facch_slots.specs.Wire.{Deinterleaving, Interleaving, Observing};
-ghost use Rattle.facch_slots.specs.declared.WordHalf.the-variants.{End, Start};
-ghost use Rattle.facch_word.specs.Words.{Encoding};
-ghost use Rattle.flat_calls.specs.Calls.{FlatWrote};
+ghost use Rattle.facch.specs.Received.{lentDecode, lentErased};
+ghost use Rattle.facch_interleaver.specs.Wire.{Deinterleaving, Interleaving, Observing};
+ghost use Rattle.facch_interleaver.specs.declared.WordHalf.the-variants.{End, Start};
+ghost use Rattle.facch.specs.Words.{Encoding};
+ghost use Rattle.flat_coding.specs.Calls.{FlatWrote};
 ghost use Rattle.flat_facch.specs.Words.{FlatDecoded};
 
 #[no_mangle]

@@ -1,11 +1,7 @@
--- The laws of the codes, of their registers and of the checksums.
+-- The laws of the codes and of their registers.
 pub mod Steps
 pub mod Mirror
 pub mod Coded
 pub mod Encoding
 pub mod Lines
 pub mod Unique
-pub mod Division
-pub mod Shifting
-pub mod Fours
-pub mod Answers

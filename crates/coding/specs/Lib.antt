@@ -1,6 +1,4 @@
--- Convolutional codes (Codes, Registers, Runs) and checksums (Checksums, and the register that computes them, Feedback): the definitions.
+-- Convolutional codes (Codes), their shift registers (Registers) and runs of inputs through them (Runs): the definitions.
 pub mod Codes
 pub mod Registers
 pub mod Runs
-pub mod Checksums
-pub mod Feedback

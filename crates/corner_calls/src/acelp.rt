@@ -6,9 +6,9 @@ use crate::answers::wrote;
 use acelp_cc1::Decoded;
 use acelp_cc1::decode;
 use acelp_cc1::encode;
-use acelp_slots::Interleaving;
-use acelp_slots::deinterleave;
-use acelp_slots::interleave;
+use acelp_interleaver::Interleaving;
+use acelp_interleaver::deinterleave;
+use acelp_interleaver::interleave;
 
 pub fn encoded(speech: &[u8], frame: &mut [u8]) -> Told {
     let answer = encode(speech, frame);

@@ -132,7 +132,7 @@ pub struct Tally {
 // 0 of an answer.
 fn number(said: Said) -> usize {
     match said {
-        Said::Refused(why) => wide(refusals::number(why)),
+        Said::Refused(why) => wide(bits::refusals::number(why)),
         Said::Done => 0,
         Said::Corrected(_) => 0,
         Said::Word {

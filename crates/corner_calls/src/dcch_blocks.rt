@@ -4,12 +4,12 @@ use crate::answers::Told;
 use crate::answers::filled;
 use crate::answers::wrote;
 use crate::lending::at_most;
-use coding::checksum::CrcMode;
+use checksums::CrcMode;
+use dcch::block::Decoded;
 use dcch::decode;
 use dcch::decode_soft;
 use dcch::encode;
-use dcch_block::Decoded;
-use dcch_wire::BlockFormat;
+use dcch_interleaver::BlockFormat;
 
 pub fn encoded(format: BlockFormat, information: &[u8], block: &mut [u8]) -> Told {
     let answer = encode(format, information, 0, CrcMode::Addressed, block);

@@ -6,10 +6,10 @@ use crate::answers::wrote;
 use facch::Decoded;
 use facch::decode;
 use facch::decode_erased;
-use facch_slots::WordHalf;
-use facch_slots::deinterleave;
-use facch_slots::interleave;
-use facch_slots::observe_half;
+use facch_interleaver::WordHalf;
+use facch_interleaver::deinterleave;
+use facch_interleaver::interleave;
+use facch_interleaver::observe_half;
 
 pub fn interleaved(previous: &[u8], current: &[u8], slot: &mut [u8]) -> Told {
     let answer = interleave(previous, current, slot);

@@ -7,8 +7,8 @@ use speech::CrcStatus;
 use speech::Decoded;
 use speech::decode_candidate;
 use speech::encode;
-use speech_slots::deinterleave;
-use speech_slots::interleave;
+use speech_interleaver::deinterleave;
+use speech_interleaver::interleave;
 
 pub fn encoded(class_one: &[u8], class_two: &[u8], frame: &mut [u8]) -> Told {
     let answer = encode(class_one, class_two, frame);

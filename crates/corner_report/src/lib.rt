@@ -22,11 +22,11 @@ pub fn part(n: u64) {
 
 pub fn refusal(why: Refusal) {
     text(b"refused");
-    part(refusals::number(why) as u64);
+    part(bits::refusals::number(why) as u64);
     text(b" (");
-    number(refusals::expected(why) as u64);
+    number(bits::refusals::expected(why) as u64);
     text(b",");
-    part(refusals::actual(why) as u64);
+    part(bits::refusals::actual(why) as u64);
     text(b")");
 }
 

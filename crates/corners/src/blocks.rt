@@ -1,5 +1,5 @@
 // Corners of DCCH blocks: Broadcast, and reliabilities that are zeros, huge or not finite.
-use coding::checksum::CrcMode;
+use checksums::CrcMode;
 use corner_calls::block_told;
 use corner_calls::wrote;
 use corner_report::text;
@@ -7,7 +7,7 @@ use corner_report::told;
 use dcch::decode;
 use dcch::decode_soft;
 use dcch::encode;
-use dcch_wire::BlockFormat;
+use dcch_interleaver::BlockFormat;
 
 pub fn corners() {
     hard_broadcast();

@@ -1,15 +1,15 @@
 // Document 01's corners of the calls on slices, a line for each case or family of cases: what was called, and what came of it.
 mod blocks;
-mod checksums;
 mod families;
 mod names;
 mod ones;
+mod sums;
 mod words;
 
-use acelp_slots::Interleaving;
+use acelp_interleaver::Interleaving;
 use corner_calls::Call;
-use dcch_wire::BlockFormat;
-use facch_slots::WordHalf;
+use dcch_interleaver::BlockFormat;
+use facch_interleaver::WordHalf;
 use families::corners;
 
 fn dcch(format: BlockFormat) {
@@ -42,7 +42,7 @@ fn acelp_slots(mode: Interleaving) {
 }
 
 fn main() {
-    checksums::corners();
+    sums::corners();
     dcch(BlockFormat::Forward);
     dcch(BlockFormat::ReverseNormal);
     dcch(BlockFormat::ReverseAbbreviated);

@@ -1,9 +1,9 @@
 // The names of the calls.
-use acelp_slots::Interleaving;
+use acelp_interleaver::Interleaving;
 use corner_calls::Call;
 use corner_report::text;
-use dcch_wire::BlockFormat;
-use facch_slots::WordHalf;
+use dcch_interleaver::BlockFormat;
+use facch_interleaver::WordHalf;
 
 fn of_format(format: BlockFormat) {
     match format {

@@ -7,7 +7,7 @@ use corner_report::text;
 use corner_report::told;
 use facch::decode;
 use facch::decode_erased;
-use facch_word::encode;
+use facch::word::encode;
 ghost use mathlib.Core.Path.{_≡_};
 ghost use lib.ListN.{length};
 

@@ -112,7 +112,7 @@ fn outcome_text(outcome: ReceiveOutcome) {
         ReceiveOutcome::Word(w) => said(word_said(w)),
         ReceiveOutcome::Rejected(why) => {
             text(b"rejected");
-            part(refusals::number(why) as u64);
+            part(bits::refusals::number(why) as u64);
         }
         ReceiveOutcome::Refused(why) => refusal(why),
     }

@@ -1,4 +1,9 @@
 -- The laws.
+-- The laws.
 pub mod RoundTrip
 pub mod SoftCells
 pub mod SoftDecodings
+pub mod Finishing
+pub mod Inputs
+pub mod Encodings
+pub mod Decodings

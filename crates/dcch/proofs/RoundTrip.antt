@@ -19,22 +19,22 @@ use Rattle.bits.proofs.Packed.{packed-unpacked-below, unpacked-length}
 use Rattle.bits.proofs.Tally.{disagreements-self, disagreements-none}
 use Rattle.coding.specs.Codes.{coded, dcch}
 use Rattle.coding.specs.Registers.{memoryHigh}
-use Rattle.coding.specs.Checksums.{checksumOf}
-use Rattle.coding.specs.declared.checksum.CrcMode.{CrcMode}
+use Rattle.checksums.specs.Checksums.{checksumOf}
+use Rattle.checksums.specs.declared.CrcMode.{CrcMode}
 use Rattle.coding.proofs.Coded.{coded-length}
 use Rattle.coding.proofs.Unique.{same-start}
-use Rattle.coding.proofs.Answers.{checksum-below}
+use Rattle.checksums.proofs.Answers.{checksum-below}
 use Rattle.trellis.specs.Search.{First}
 use Rattle.trellis.specs.Words.{Terminated}
 use Rattle.viterbi.specs.Hard.{weight, weightFrom}
 use Rattle.bits.proofs.Refusing.{exact-fine}
-use Rattle.dcch_wire.specs.declared.BlockFormat.{BlockFormat}
-use Rattle.dcch_block.specs.declared.Decoded.{Decoded}
-use Rattle.dcch_wire.specs.Formats.{encodedBits, informationBits}
-use Rattle.dcch_wire.specs.Wire.{interleaved, deinterleaved}
-use Rattle.dcch_block.specs.Blocks.{inputsOf, cellsOf, blockOf, sound, lentDecode, decodeAnswer, Settled, Decoding}
-use Rattle.dcch_wire.proofs.Interleaved.{interleaved-length, deinterleaved-interleaved}
-use Rattle.dcch_block.proofs.Encodings.{format-sizes}
+use Rattle.dcch_interleaver.specs.declared.BlockFormat.{BlockFormat}
+use Rattle.dcch.specs.declared.block.Decoded.{Decoded}
+use Rattle.dcch_interleaver.specs.Formats.{encodedBits, informationBits}
+use Rattle.dcch_interleaver.specs.Wire.{interleaved, deinterleaved}
+use Rattle.dcch.specs.Blocks.{inputsOf, cellsOf, blockOf, sound, lentDecode, decodeAnswer, Settled, Decoding}
+use Rattle.dcch_interleaver.proofs.Interleaved.{interleaved-length, deinterleaved-interleaved}
+use Rattle.dcch.proofs.Encodings.{format-sizes}
 
 module _ (f : BlockFormat) (information : List Bool) (size : length information ≡ informationBits f) (dvcc : ℕ) (mode : CrcMode) where
   inputs : List Bool

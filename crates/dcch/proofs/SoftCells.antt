@@ -13,11 +13,11 @@ use Rattle.bits.proofs.LentPart.{became, became-length}
 use Rattle.coding.specs.Codes.{coded, dcch}
 use Rattle.coding.specs.Registers.{memoryHigh}
 use Rattle.coding.specs.Runs.{Encoded}
-use Rattle.coding.specs.declared.checksum.CrcMode.{CrcMode}
-use Rattle.reliability.specs.Reliability.{signCount}
+use Rattle.checksums.specs.declared.CrcMode.{CrcMode}
+use Rattle.soft.specs.Reliability.{signCount}
 use Rattle.soft.specs.Soft.{SoftFound}
-use Rattle.dcch_block.specs.declared.Decoded.{Decoded}
-use Rattle.dcch_block.specs.Blocks.{Finished}
+use Rattle.dcch.specs.declared.block.Decoded.{Decoded}
+use Rattle.dcch.specs.Blocks.{Finished}
 use Rattle.dcch.specs.SoftBlocks.{signsOf, SoftEnd}
 
 -- ---- `count_signs`: the first places of 260 zeros become the coded bits

@@ -14,18 +14,18 @@ use Rattle.bits.specs.declared.Refusal.{Refusal}
 use Rattle.bits.specs.declared.Refusal.the-variants.{Crc}
 use Rattle.bits.proofs.LentPart.{became, became-length}
 use Rattle.bits.proofs.Refusing.{never-both, fine-first, fine-exact}
-use Rattle.coding.specs.declared.checksum.CrcMode.{CrcMode}
-use Rattle.reliability.specs.Reliability.{finite, allFinite, WholeWithin, AllWhole}
-use Rattle.reliability.proofs.Tests.{finite-each}
-use Rattle.dcch_wire.specs.declared.BlockFormat.{BlockFormat}
-use Rattle.dcch_block.specs.declared.Decoded.{Decoded}
-use Rattle.dcch_block.specs.declared.Decoded.the-variants as answer
-use Rattle.dcch_wire.specs.Formats.{encodedBits, informationBits}
-use Rattle.dcch_wire.specs.Wire.{deinterleaved}
+use Rattle.checksums.specs.declared.CrcMode.{CrcMode}
+use Rattle.soft.specs.Reliability.{finite, allFinite, WholeWithin, AllWhole}
+use Rattle.soft.proofs.Tests.{finite-each}
+use Rattle.dcch_interleaver.specs.declared.BlockFormat.{BlockFormat}
+use Rattle.dcch.specs.declared.block.Decoded.{Decoded}
+use Rattle.dcch.specs.declared.block.Decoded.the-variants as answer
+use Rattle.dcch_interleaver.specs.Formats.{encodedBits, informationBits}
+use Rattle.dcch_interleaver.specs.Wire.{deinterleaved}
 use Rattle.dcch.specs.SoftBlocks.{lentSoft, SoftEnd, SoftDecoding}
-use Rattle.dcch_wire.proofs.Wiring.{wire-below}
-use Rattle.dcch_wire.proofs.Interleaved.{deinterleaved-length, deinterleaved-at}
-use Rattle.dcch_block.proofs.Encodings.{format-sizes}
+use Rattle.dcch_interleaver.proofs.Wiring.{wire-below}
+use Rattle.dcch_interleaver.proofs.Interleaved.{deinterleaved-length, deinterleaved-at}
+use Rattle.dcch.proofs.Encodings.{format-sizes}
 
 -- values that are each finite
 each-finite : (l : List Float) → ((i : ℕ) → i < length l → finite (getD l i nan) ≡ true) → allFinite l ≡ true

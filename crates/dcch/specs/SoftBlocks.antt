@@ -13,17 +13,17 @@ use Rattle.bits.specs.declared.Refusal.{Refusal}
 use Rattle.bits.specs.declared.Refusal.the-variants.{Crc}
 use Rattle.coding.specs.Codes.{coded, dcch}
 use Rattle.coding.specs.Registers.{memoryHigh}
-use Rattle.coding.specs.declared.checksum.CrcMode.{CrcMode}
+use Rattle.checksums.specs.declared.CrcMode.{CrcMode}
 use Rattle.trellis.specs.Search.{First}
 use Rattle.trellis.specs.Words.{Terminated}
-use Rattle.reliability.specs.Reliability.{allFinite, AllWhole, signCount}
+use Rattle.soft.specs.Reliability.{allFinite, AllWhole, signCount}
 use Rattle.soft.specs.RustOrder.{rustBits}
 use Rattle.soft.specs.Soft.{softWord, totalCost}
-use Rattle.dcch_wire.specs.declared.BlockFormat.{BlockFormat}
-use Rattle.dcch_block.specs.declared.Decoded.{Decoded}
-use Rattle.dcch_wire.specs.Formats.{encodedBits, informationBits}
-use Rattle.dcch_wire.specs.Wire.{deinterleaved}
-use Rattle.dcch_block.specs.Blocks.{decodeAnswer, Finished}
+use Rattle.dcch_interleaver.specs.declared.BlockFormat.{BlockFormat}
+use Rattle.dcch.specs.declared.block.Decoded.{Decoded}
+use Rattle.dcch_interleaver.specs.Formats.{encodedBits, informationBits}
+use Rattle.dcch_interleaver.specs.Wire.{deinterleaved}
+use Rattle.dcch.specs.Blocks.{decodeAnswer, Finished}
 
 -- a block and room for the information: each length
 abbrev pub lentSoft : BlockFormat → ℕ → ℕ → Lent

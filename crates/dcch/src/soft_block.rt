@@ -1,15 +1,15 @@
 // Decoding of a block of reliabilities: positive for a zero, negative for a one, the size for how sure.
 // Ported from 136-bts, dcch.rs, and changed (see NOTICE).
+use crate::block::Decoded;
+use crate::block::finish;
 use bits::Lent;
 use bits::Refusal;
 use bits::exact;
 use bits::first;
-use coding::checksum::CrcMode;
+use checksums::CrcMode;
 use coding::dcch::convolutional_encode;
-use dcch_block::Decoded;
-use dcch_block::finish;
-use dcch_wire::BlockFormat;
-use dcch_wire::deinterleave_soft;
+use dcch_interleaver::BlockFormat;
+use dcch_interleaver::deinterleave_soft;
 use soft::all_finite;
 use soft::sign_count;
 use soft::viterbi_soft;

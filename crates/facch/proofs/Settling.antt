@@ -18,8 +18,8 @@ use Rattle.trellis.specs.declared.Outcome.{Outcome}
 use Rattle.words.specs.Words.{messageIn}
 use Rattle.words.proofs.Parts.{flag}
 use Rattle.facch.specs.Decoding.{Content, contentOf, sound, Finished, Answered, Decoding}
-use Rattle.facch_received.specs.Received.{observedCount}
-use Rattle.facch_search.specs.Search.{weight, Searched}
+use Rattle.facch.specs.Received.{observedCount}
+use Rattle.facch.specs.Search.{weight, Searched}
 
 -- ---- `finish`
 module _ (word : List ℕ) (corrected observed dvcc : ℕ) {right : Bool} (told : right ≡ sound (bits word) dvcc) where

@@ -16,8 +16,8 @@ use Rattle.words.specs.Words as words
 use Rattle.words.specs.Words.{messageIn}
 use Rattle.facch.specs.declared.Decoded.{Decoded}
 use Rattle.facch.specs.declared.Decoded.the-variants as decoded
-use Rattle.facch_received.specs.Received.{observedCount}
-use Rattle.facch_search.specs.Search.{weight}
+use Rattle.facch.specs.Received.{observedCount}
+use Rattle.facch.specs.Search.{weight}
 
 -- the content of a word, the message as a number with its first bit highest
 pub record Content : Type 0 where

@@ -1,12 +1,12 @@
 // Decoding of a word, some of its bits unobserved (IS-54-B 2.7.3.1.1).
 // Ported from 136-bts, facch.rs, and changed (see NOTICE).
 use crate::Decoded;
+use crate::received::count_observed;
+use crate::received::lent_decode;
+use crate::received::lent_erased;
+use crate::search::nearest_word;
 use bits::Lent;
 use bits::Refusal;
-use facch_received::count_observed;
-use facch_received::lent_decode;
-use facch_received::lent_erased;
-use facch_search::nearest_word;
 use words::is_sound;
 ghost use mathlib.Core.Bool.{true};
 ghost use mathlib.Core.Path.{_≡_};
@@ -15,7 +15,7 @@ ghost use lib.ListN.{length};
 ghost use Rattle.bits.specs.Bits.{allBinary, bits};
 ghost use Rattle.tailbiting.specs.TailBiting.{allErasable};
 ghost use Rattle.facch.specs.Decoding.{Answered, Decoding, Finished, decodeAnswer};
-ghost use Rattle.facch_received.specs.Received.{lentDecode, lentErased, observedCount};
+ghost use Rattle.facch.specs.Received.{lentDecode, lentErased, observedCount};
 
 // The content of a word, where its checksum is right.
 fn finish(word: &[u8], corrected: u16, observed: u16, dvcc: u8) -> Decoded

@@ -1,14 +1,17 @@
 // FACCH words (IS-54-B 2.7.3.1.1). Ported from 136-bts, facch.rs (see NOTICE). The contracts cite specs/.
 mod decoding;
+pub mod received;
+pub mod search;
+pub mod word;
 
+pub use crate::word::encode;
 use bits::Refusal;
 pub use decoding::decode;
 pub use decoding::decode_erased;
-pub use facch_slots::WordHalf;
-pub use facch_slots::deinterleave;
-pub use facch_slots::interleave;
-pub use facch_slots::observe_half;
-pub use facch_word::encode;
+pub use facch_interleaver::WordHalf;
+pub use facch_interleaver::deinterleave;
+pub use facch_interleaver::interleave;
+pub use facch_interleaver::observe_half;
 
 // What decoding a word answers: the word's content with its corrected and its observed bits, or a refusal.
 pub enum Decoded {

@@ -11,10 +11,10 @@ use Rattle.bits.specs.Bits.{byte, bytes}
 use Rattle.bits.specs.Places.{listed, placeIn}
 use Rattle.bits.proofs.Binary.{byte-one}
 use Rattle.bits.proofs.Tested.{both, both-left, both-right, every, below}
-use Rattle.facch_slots.specs.declared.WordHalf.{WordHalf}
-use Rattle.facch_slots.specs.declared.WordHalf.the-variants.{Start, End}
-use Rattle.facch_slots.specs.Wire.{table, placeOf, wireOf, interleaved, observed}
-use Rattle.facch_word.specs.Words.{tailBiting}
+use Rattle.facch_interleaver.specs.declared.WordHalf.{WordHalf}
+use Rattle.facch_interleaver.specs.declared.WordHalf.the-variants.{Start, End}
+use Rattle.facch_interleaver.specs.Wire.{table, placeOf, wireOf, interleaved, observed}
+use Rattle.facch.specs.Words.{tailBiting}
 use Rattle.facch_laws.proofs.Halves.{carries, slotOf, word-observed}
 use Rattle.facch_laws.proofs.Taps.{circle, sends}
 use Rattle.facch_laws.proofs.Shown.{Agree, SameSent, same-newest, same-five, grown}

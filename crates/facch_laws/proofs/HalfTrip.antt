@@ -13,17 +13,17 @@ use Rattle.bits.proofs.Tally.{tally-zero, zero-at}
 use Rattle.bits.proofs.Binary.{byte-below, differ-same, differ-none}
 use Rattle.tailbiting.specs.TailBiting.{erasedDiffer}
 use Rattle.tailbiting.proofs.Erasable.{erasable-all, erased-none}
-use Rattle.facch_slots.specs.declared.WordHalf.{WordHalf}
-use Rattle.facch_slots.specs.declared.WordHalf.the-variants.{Start, End}
+use Rattle.facch_interleaver.specs.declared.WordHalf.{WordHalf}
+use Rattle.facch_interleaver.specs.declared.WordHalf.the-variants.{Start, End}
 use Rattle.bits.specs.declared.Wrote.{Wrote}
-use Rattle.slots.specs.Calls.{lentTwo}
-use Rattle.facch_slots.specs.Wire.{interleaved, observed, Interleaving, Observing}
-use Rattle.facch_word.specs.Words.{wordOf, tailBiting, Encoding}
+use Rattle.interleaving.specs.Calls.{lentTwo}
+use Rattle.facch_interleaver.specs.Wire.{interleaved, observed, Interleaving, Observing}
+use Rattle.facch.specs.Words.{wordOf, tailBiting, Encoding}
 use Rattle.facch.specs.Decoding.{Content, contentOf, Decoding}
-use Rattle.facch_received.specs.Received.{observedCount, lentErased}
-use Rattle.facch_search.specs.Search.{weight}
-use Rattle.facch_slots.proofs.Answering.{fine-one}
-use Rattle.facch_received.proofs.Received.{fine-bytes}
+use Rattle.facch.specs.Received.{observedCount, lentErased}
+use Rattle.facch.specs.Search.{weight}
+use Rattle.facch_interleaver.proofs.Answering.{fine-one}
+use Rattle.facch.proofs.Receiving.{fine-bytes}
 use Rattle.facch_laws.proofs.Halves.{slotted, carries, slotOf, observed-length, word-observed, half-count}
 use Rattle.facch_laws.proofs.Determined.{half-determines}
 use Rattle.facch_laws.proofs.RoundTrip.{agreed, erased-byte, biting-length, word-length, sound-own, content-own, written}

@@ -13,18 +13,18 @@ use Rattle.bits.proofs.Binary.{binary-at}
 use Rattle.bits.proofs.Listed.{is-listed}
 use Rattle.bits.specs.declared.Lent.the-variants.{Fine}
 use Rattle.bits.specs.declared.Wrote.{Wrote}
-use Rattle.facch_slots.specs.declared.WordHalf.{WordHalf}
-use Rattle.facch_slots.specs.declared.WordHalf.the-variants.{Start, End}
-use Rattle.slots.specs.Slots.{byRow}
-use Rattle.slots.specs.Calls.{lentTwo}
-use Rattle.slots.proofs.RoundTrip.{between-two}
-use Rattle.slots.proofs.Answering.{two-fine, two-bits, fine-two}
-use Rattle.facch_slots.specs.Wire.{table, placeOf, placeAt, wireOf, interleaved, deinterleaved, observed, Interleaving, Deinterleaving}
+use Rattle.facch_interleaver.specs.declared.WordHalf.{WordHalf}
+use Rattle.facch_interleaver.specs.declared.WordHalf.the-variants.{Start, End}
+use Rattle.interleaving.specs.Slots.{byRow}
+use Rattle.interleaving.specs.Calls.{lentTwo}
+use Rattle.interleaving.proofs.RoundTrip.{between-two}
+use Rattle.interleaving.proofs.Answering.{two-fine, two-bits, fine-two}
+use Rattle.facch_interleaver.specs.Wire.{table, placeOf, placeAt, wireOf, interleaved, deinterleaved, observed, Interleaving, Deinterleaving}
 use Rattle.bits.specs.Calls.{wroteAnswer}
-use Rattle.facch_received.specs.Received.{seen, observedCount}
-use Rattle.facch_slots.proofs.Table.{wire-below, place-of-wire}
-use Rattle.facch_slots.proofs.Interleaved.{interleaved-length, deinterleaved-length, interleaved-at, deinterleaved-at, binary-interleaved}
-use Rattle.facch_received.proofs.Received.{not-seen, is-one}
+use Rattle.facch.specs.Received.{seen, observedCount}
+use Rattle.facch_interleaver.proofs.Table.{wire-below, place-of-wire}
+use Rattle.facch_interleaver.proofs.Interleaved.{interleaved-length, deinterleaved-length, interleaved-at, deinterleaved-at, binary-interleaved}
+use Rattle.facch.proofs.Receiving.{not-seen, is-one}
 
 module _ {A : Type 0} (d : A) where
   -- what a slot carries of a word: its even rows of the one before it, its odd rows of its own

@@ -13,11 +13,11 @@ use Rattle.bits.specs.declared.Lent.the-variants.{Fine, Refused}
 use Rattle.bits.specs.declared.Refusal.the-variants as refusal
 use Rattle.trellis.specs.Search.{Ambiguous}
 use Rattle.trellis.specs.Words.{OfLength}
-use Rattle.nearest.proofs.OneOutcome.{is-ambiguous, one-nearest}
+use Rattle.trellis.proofs.OneOutcome.{is-ambiguous, one-nearest}
 use Rattle.facch.specs.Decoding.{Content, sound, Finished, Settled, Answered, Decoding}
-use Rattle.facch_received.specs.Received.{observedCount, erasableOf, lentErased, lentDecode}
-use Rattle.facch_search.specs.Search.{weight}
-use Rattle.facch_received.proofs.Received.{binary-erasable}
+use Rattle.facch.specs.Received.{observedCount, erasableOf, lentErased, lentDecode}
+use Rattle.facch.specs.Search.{weight}
+use Rattle.facch.proofs.Receiving.{binary-erasable}
 
 one-finished : {w : List Bool} {corrected observed dvcc : ℕ} {a b : Answer Content} → Finished w corrected observed dvcc a → Finished w corrected observed dvcc b → a ≡ b
 one-finished {w} {corrected} {observed} {dvcc} {a} {b} f g = go (sound w dvcc) refl

@@ -15,7 +15,7 @@ use Rattle.bits.specs.declared.Lent.the-variants.{Fine}
 use Rattle.bits.proofs.Binary.{binary-bytes}
 use Rattle.bits.proofs.Tally.{disagreements-self, disagreements-none}
 use Rattle.coding.specs.Codes.{tapped, coded, facch}
-use Rattle.coding.specs.Checksums.{checksumOf, divided, added}
+use Rattle.checksums.specs.Checksums.{checksumOf, divided, added}
 use Rattle.coding.proofs.Coded.{coded-length}
 use Rattle.trellis.specs.Search.{Nearest, Ambiguous}
 use Rattle.trellis.specs.Words.{OfLength}
@@ -23,12 +23,12 @@ use Rattle.tailbiting.specs.TailBiting.{erasedDiffer}
 use Rattle.bits.specs.declared.Wrote.{Wrote}
 use Rattle.words.specs.Words.{madeOf}
 use Rattle.words.proofs.Made.{made-length, made-sound, made-message}
-use Rattle.facch_word.specs.Words.{wordOf, tailBiting, Encoding}
+use Rattle.facch.specs.Words.{wordOf, tailBiting, Encoding}
 use Rattle.facch.specs.Decoding.{Content, contentOf, sound, Settled, Decoding}
-use Rattle.facch_received.specs.Received.{seen, observedCount, lentErased, lentDecode}
-use Rattle.facch_search.specs.Search.{weight}
+use Rattle.facch.specs.Received.{seen, observedCount, lentErased, lentDecode}
+use Rattle.facch.specs.Search.{weight}
 use Rattle.bits.proofs.Refusing.{exact-fine, binary-fine, below-fine}
-use Rattle.facch_received.proofs.Received.{binary-erasable, fine-bytes}
+use Rattle.facch.proofs.Receiving.{binary-erasable, fine-bytes}
 use Rattle.facch_laws.proofs.Determined.{whole-determines}
 
 -- ---- a word that agrees with what was observed, where no other does

@@ -8,7 +8,7 @@ use native.Mathlib.Decide.{decLt}
 use lib.ListN.{length, getD, take, drop, length-append, length-drop, take-append-drop, List·getD-append}
 use lib.Seq.{length-take-le, getD-append-add}
 use Rattle.coding.specs.Codes.{tapped, outputs, coded, facch}
-use Rattle.facch_word.specs.Words.{tailBiting}
+use Rattle.facch.specs.Words.{tailBiting}
 
 -- the six bits that step s taps, newest first
 abbrev pub window : (ℕ → Bool) → ℕ → List Bool

@@ -1,2 +1,6 @@
 -- The laws.
+-- The laws.
+-- The laws.
 pub mod Steps
+pub mod Carried
+pub mod Searches

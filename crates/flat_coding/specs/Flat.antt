@@ -10,8 +10,8 @@ use Rattle.bits.specs.Refusals.{Answer, accepted, pending, rejected, refused, n
 use Rattle.bits.specs.declared.Refusal.{Refusal}
 use Rattle.bits.specs.declared.Refusal.the-variants.{Symbol, State}
 use Rattle.coding.specs.Registers.{Stepped}
-use Rattle.coding.specs.declared.checksum.CrcMode.{CrcMode}
-use Rattle.coding.specs.declared.checksum.CrcMode.the-variants.{Broadcast, Addressed}
+use Rattle.checksums.specs.declared.CrcMode.{CrcMode}
+use Rattle.checksums.specs.declared.CrcMode.the-variants.{Broadcast, Addressed}
 use Rattle.flat_coding.specs.declared.Step.{Step}
 use Rattle.flat_coding.specs.declared.Checksum.{Checksum}
 use Rattle.bits.specs.declared.Lent.{Lent}

@@ -1,12 +1,15 @@
 // Flat functions over `coding`: one step of each code, and the checksums. Each answers a number of document 01, or 0 with its result.
+pub mod calls;
+pub mod search;
+
 use bits::Lent;
 use bits::Refusal;
-use coding::checksum::Checked;
-use coding::checksum::CrcMode;
-use refusals::number;
+use bits::refusals::number;
+use checksums::Checked;
+use checksums::CrcMode;
 ghost use mathlib.Core.Path.{_≡_};
 ghost use Rattle.bits.specs.Bits.{bits};
-ghost use Rattle.coding.specs.Checksums.{answerOf, checksum7Of, checksumOf, ofBits};
+ghost use Rattle.checksums.specs.Checksums.{answerOf, checksum7Of, checksumOf, ofBits};
 ghost use Rattle.coding.specs.Codes.{acelp, dcch, facch};
 ghost use Rattle.coding.specs.Registers.{memoryHigh, memoryLow};
 ghost use Rattle.flat_coding.specs.Flat.{StepAnswer, flatChecksum, lentStep, modeOf, noStep};
@@ -124,12 +127,12 @@ fn flat_checksum(checked: Checked) -> Checksum
 pub fn checksum16(information: &[u8], dvcc: u8, broadcast: bool) -> Checksum
     ensures { λ r. ⌜ r ≡ flatChecksum (ofBits (now (information .entry)) (checksumOf (bits (now (information .entry))) dvcc (modeOf broadcast))) ⌝ }
 {
-    flat_checksum(coding::checksum::checksum(information, dvcc, mode_of(broadcast)))
+    flat_checksum(checksums::checksum(information, dvcc, mode_of(broadcast)))
 }
 
 // The 7-bit checksum of a speech frame's information.
 pub fn checksum7(information: &[u8]) -> Checksum
     ensures { λ r. ⌜ r ≡ flatChecksum (ofBits (now (information .entry)) (checksum7Of (bits (now (information .entry))))) ⌝ }
 {
-    flat_checksum(coding::checksum::checksum7(information))
+    flat_checksum(checksums::checksum7(information))
 }

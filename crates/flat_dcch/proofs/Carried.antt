@@ -3,11 +3,11 @@ use mathlib.Core.Path.{_≡_, subst}
 use Prim.Native.Nat.{ℕ}
 use Rattle.bits.specs.Refusals.{numberOf, expectedOf, actualOf}
 use Rattle.bits.specs.declared.Refusal.{Refusal}
-use Rattle.coding.specs.declared.checksum.CrcMode.{CrcMode}
+use Rattle.checksums.specs.declared.CrcMode.{CrcMode}
 use Rattle.bits.specs.declared.Wrote.{Wrote}
 use Rattle.bits.specs.Calls.{wroteAnswer}
-use Rattle.dcch_block.specs.declared.Decoded.{Decoded}
-use Rattle.dcch_block.specs.Blocks.{decodeAnswer}
+use Rattle.dcch.specs.declared.block.Decoded.{Decoded}
+use Rattle.dcch.specs.Blocks.{decodeAnswer}
 use Rattle.flat_dcch.specs.declared.Block.{Block}
 use Rattle.flat_dcch.specs.Blocks.{noBlock, flatDone, flatCorrected, FlatEncoded, FlatDecoded}
 

@@ -5,8 +5,8 @@ use Rattle.bits.specs.Refusals.{Answer, accepted, pending, rejected, refused, n
 use Rattle.bits.specs.declared.Refusal.{Refusal}
 use Rattle.bits.specs.declared.Wrote.{Wrote}
 use Rattle.bits.specs.Calls.{wroteAnswer}
-use Rattle.dcch_block.specs.declared.Decoded.{Decoded}
-use Rattle.dcch_block.specs.Blocks.{decodeAnswer}
+use Rattle.dcch.specs.declared.block.Decoded.{Decoded}
+use Rattle.dcch.specs.Blocks.{decodeAnswer}
 use Rattle.flat_dcch.specs.declared.Block.{Block}
 
 abbrev pub noBlock : Refusal → Block

@@ -1,13 +1,13 @@
 // Flat functions over `dcch`: one for each format, since C has no enum of ours. Each answers a number of document 01, or 0 with its result.
 use bits::Wrote;
+use bits::refusals::actual;
+use bits::refusals::expected;
+use bits::refusals::number;
 use dcch::BlockFormat;
 use dcch::Decoded;
 use flat_coding::mode_of;
-use refusals::actual;
-use refusals::expected;
-use refusals::number;
 ghost use mathlib.Core.Path.{_≡_};
-ghost use Rattle.dcch_block.specs.Blocks.{Decoding, Encoding, decodeAnswer};
+ghost use Rattle.dcch.specs.Blocks.{Decoding, Encoding, decodeAnswer};
 ghost use Rattle.bits.specs.Calls.{wroteAnswer};
 ghost use Rattle.dcch.specs.SoftBlocks.{SoftDecoding};
 ghost use Rattle.flat_dcch.specs.Blocks.{FlatDecoded, FlatEncoded, flatDone, flatCorrected};

@@ -1,19 +1,19 @@
 // Flat functions over `facch`: words and the slots that carry them. Each answers a number of document 01, or 0 with its result.
 use bits::Refusal;
+use bits::refusals::actual;
+use bits::refusals::expected;
+use bits::refusals::number;
 use facch::Decoded;
 use facch::WordHalf;
-use flat_calls::Written;
-use flat_calls::flat_wrote;
-use refusals::actual;
-use refusals::expected;
-use refusals::number;
+use flat_coding::calls::Written;
+use flat_coding::calls::flat_wrote;
 ghost use mathlib.Core.Path.{_≡_};
 ghost use Rattle.facch.specs.Decoding.{Decoding, decodeAnswer};
-ghost use Rattle.facch_received.specs.Received.{lentDecode, lentErased};
-ghost use Rattle.facch_slots.specs.Wire.{Deinterleaving, Interleaving, Observing};
-ghost use Rattle.facch_word.specs.Words.{Encoding};
-ghost use Rattle.facch_slots.specs.declared.WordHalf.the-variants.{End, Start};
-ghost use Rattle.flat_calls.specs.Calls.{FlatWrote};
+ghost use Rattle.facch.specs.Received.{lentDecode, lentErased};
+ghost use Rattle.facch_interleaver.specs.Wire.{Deinterleaving, Interleaving, Observing};
+ghost use Rattle.facch.specs.Words.{Encoding};
+ghost use Rattle.facch_interleaver.specs.declared.WordHalf.the-variants.{End, Start};
+ghost use Rattle.flat_coding.specs.Calls.{FlatWrote};
 ghost use Rattle.flat_facch.specs.Words.{FlatDecoded, flatContent, noWord};
 
 pub fn encode(continuation: bool, message: u64, dvcc: u8, coded: &mut [u8]) -> Written

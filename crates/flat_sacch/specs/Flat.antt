@@ -9,8 +9,8 @@ use Rattle.sacch_encoder.specs.Encoder.{Sent}
 use Rattle.sacch_decoder.specs.declared.SacchWord.{SacchWord}
 use Rattle.sacch_receiver.specs.Receiver.{Moved}
 use Rattle.sacch_receiver.specs.declared.SacchReceiver.{SacchReceiver}
-use Rattle.sacch_stored.specs.declared.Lock.{Lock}
-use Rattle.sacch_stored.specs.declared.Lock.the-variants.{Unlocked, Locked}
+use Rattle.sacch_receiver.specs.declared.stored.Lock.{Lock}
+use Rattle.sacch_receiver.specs.declared.stored.Lock.the-variants.{Unlocked, Locked}
 use Rattle.flat_sacch.specs.declared.Field.{Field}
 use Rattle.flat_sacch.specs.declared.Fields.{Fields}
 use Rattle.flat_sacch.specs.declared.Word.{Word}

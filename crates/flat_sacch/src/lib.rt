@@ -3,15 +3,15 @@ mod receiver;
 
 use bits::Refusal;
 use bits::Wrote;
+use bits::refusals::actual;
+use bits::refusals::expected;
+use bits::refusals::number;
 pub use receiver::Pushed;
 pub use receiver::Receiver;
 pub use receiver::discontinuity;
 pub use receiver::new_receiver;
 pub use receiver::push;
 pub use receiver::push_by_value;
-use refusals::actual;
-use refusals::expected;
-use refusals::number;
 use sacch::Decoded;
 use sacch::SacchEncoder;
 ghost use mathlib.Core.Path.{_≡_};

@@ -1,5 +1,5 @@
 // The receiver as a flat record, and its pushes.
-use refusals::number;
+use bits::refusals::number;
 use sacch::Heard;
 use sacch::Lock;
 use sacch::ReceiveOutcome;

@@ -1,19 +1,19 @@
 // Flat functions over the speech frames of VSELP (`speech`) and ACELP CC1. Each answers a number of document 01, or 0 with its result.
-use acelp_slots::Interleaving;
+use acelp_interleaver::Interleaving;
 use bits::Refusal;
-use flat_calls::Written;
-use flat_calls::flat_wrote;
-use refusals::actual;
-use refusals::expected;
-use refusals::number;
+use bits::refusals::actual;
+use bits::refusals::expected;
+use bits::refusals::number;
+use flat_coding::calls::Written;
+use flat_coding::calls::flat_wrote;
 use speech::CrcStatus;
 ghost use mathlib.Core.Path.{_≡_};
 ghost use Rattle.acelp_cc1.specs.Calls as acelp_calls;
-ghost use Rattle.acelp_slots.specs.Wire as acelp_wire;
-ghost use Rattle.acelp_slots.specs.declared.Interleaving.the-variants.{One, Two, Three};
-ghost use Rattle.flat_calls.specs.Calls.{FlatWrote};
+ghost use Rattle.acelp_interleaver.specs.Wire as acelp_wire;
+ghost use Rattle.acelp_interleaver.specs.declared.Interleaving.the-variants.{One, Two, Three};
+ghost use Rattle.flat_coding.specs.Calls.{FlatWrote};
 ghost use Rattle.speech.specs.Calls as vselp_calls;
-ghost use Rattle.speech_slots.specs.Wire as vselp_wire;
+ghost use Rattle.speech_interleaver.specs.Wire as vselp_wire;
 ghost use Rattle.flat_speech.specs.Frames.{FlatFrame, acelpFrame, isValid, noFrame, vselpFrame};
 
 // valid and corrected are those of an accepted frame; expected and actual those of a refusal for length.
@@ -95,13 +95,13 @@ pub fn vselp_decode_candidate(frame: &[u8], class_one: &mut [u8], class_two: &mu
 pub fn vselp_interleave(previous: &[u8], current: &[u8], slot: &mut [u8]) -> Written
     ensures { λ r. ⌜ FlatWrote (vselp_wire.Interleaving (now (previous .entry)) (now (current .entry)) (now (slot .entry)) (now (slot .exit))) r ⌝ }
 {
-    flat_wrote(speech_slots::interleave(previous, current, slot))
+    flat_wrote(speech_interleaver::interleave(previous, current, slot))
 }
 
 pub fn vselp_deinterleave(first: &[u8], second: &[u8], frame: &mut [u8]) -> Written
     ensures { λ r. ⌜ FlatWrote (vselp_wire.Deinterleaving (now (first .entry)) (now (second .entry)) (now (frame .entry)) (now (frame .exit))) r ⌝ }
 {
-    flat_wrote(speech_slots::deinterleave(first, second, frame))
+    flat_wrote(speech_interleaver::deinterleave(first, second, frame))
 }
 
 pub fn acelp_encode(speech: &[u8], frame: &mut [u8]) -> Written
@@ -119,35 +119,35 @@ pub fn acelp_decode(frame: &[u8], speech: &mut [u8]) -> Frame
 pub fn acelp_interleave_one(history: &[u8], slot: &mut [u8]) -> Written
     ensures { λ r. ⌜ FlatWrote (acelp_wire.InterleavingCall (now (history .entry)) One (now (slot .entry)) (now (slot .exit))) r ⌝ }
 {
-    flat_wrote(acelp_slots::interleave(history, Interleaving::One, slot))
+    flat_wrote(acelp_interleaver::interleave(history, Interleaving::One, slot))
 }
 
 pub fn acelp_deinterleave_one(slots: &[u8], frame: &mut [u8]) -> Written
     ensures { λ r. ⌜ FlatWrote (acelp_wire.DeinterleavingCall (now (slots .entry)) One (now (frame .entry)) (now (frame .exit))) r ⌝ }
 {
-    flat_wrote(acelp_slots::deinterleave(slots, Interleaving::One, frame))
+    flat_wrote(acelp_interleaver::deinterleave(slots, Interleaving::One, frame))
 }
 
 pub fn acelp_interleave_two(history: &[u8], slot: &mut [u8]) -> Written
     ensures { λ r. ⌜ FlatWrote (acelp_wire.InterleavingCall (now (history .entry)) Two (now (slot .entry)) (now (slot .exit))) r ⌝ }
 {
-    flat_wrote(acelp_slots::interleave(history, Interleaving::Two, slot))
+    flat_wrote(acelp_interleaver::interleave(history, Interleaving::Two, slot))
 }
 
 pub fn acelp_deinterleave_two(slots: &[u8], frame: &mut [u8]) -> Written
     ensures { λ r. ⌜ FlatWrote (acelp_wire.DeinterleavingCall (now (slots .entry)) Two (now (frame .entry)) (now (frame .exit))) r ⌝ }
 {
-    flat_wrote(acelp_slots::deinterleave(slots, Interleaving::Two, frame))
+    flat_wrote(acelp_interleaver::deinterleave(slots, Interleaving::Two, frame))
 }
 
 pub fn acelp_interleave_three(history: &[u8], slot: &mut [u8]) -> Written
     ensures { λ r. ⌜ FlatWrote (acelp_wire.InterleavingCall (now (history .entry)) Three (now (slot .entry)) (now (slot .exit))) r ⌝ }
 {
-    flat_wrote(acelp_slots::interleave(history, Interleaving::Three, slot))
+    flat_wrote(acelp_interleaver::interleave(history, Interleaving::Three, slot))
 }
 
 pub fn acelp_deinterleave_three(slots: &[u8], frame: &mut [u8]) -> Written
     ensures { λ r. ⌜ FlatWrote (acelp_wire.DeinterleavingCall (now (slots .entry)) Three (now (frame .entry)) (now (frame .exit))) r ⌝ }
 {
-    flat_wrote(acelp_slots::deinterleave(slots, Interleaving::Three, frame))
+    flat_wrote(acelp_interleaver::deinterleave(slots, Interleaving::Three, frame))
 }

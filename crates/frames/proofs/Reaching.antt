@@ -4,11 +4,11 @@ use mathlib.Core.List.{List, [], _++_}
 use Prim.Native.Nat.{ℕ, zero, suc, _≤_}
 use native.Mathlib.Omega.{arith}
 use lib.ListN.{length, getD, replicate, length-replicate}
-use Rattle.numerals.proofs.Stored.{put-nothing}
+use Rattle.text.proofs.Stored.{put-nothing}
 use Rattle.session.specs.declared.Fed.{Fed}
 use Rattle.session.specs.declared.Session.{Session}
 use Rattle.session.specs.Output.{fresh}
-use Rattle.totals.specs.Totals.{noWord}
+use Rattle.session.specs.Totals.{noWord}
 use Rattle.session.specs.Scanning.{Scan, seen, heard}
 use Rattle.session.specs.Contracts.{PieceFed, atStart, begun, viewOf}
 use Rattle.session.proofs.Whole.{seen-then}

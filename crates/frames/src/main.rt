@@ -1,11 +1,11 @@
 // Reads lines of channel words from standard input, and writes an answer to each and the totals (document 01, 'The line program `frames`').
 // What it writes for an input is `output` of session/specs/Output.antt.
-use feeding::feed;
 use libc::STDERR_FILENO;
 use libc::STDIN_FILENO;
 use libc::STDOUT_FILENO;
 use session::Session;
 use session::finish;
+use session::pieces::feed;
 use session::start;
 ghost use mathlib.Core.Path.{_≡_};
 ghost use lib.ListN.{length, replicate};

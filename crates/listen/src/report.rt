@@ -30,11 +30,11 @@ fn told(outcome: ReceiveOutcome) {
         ReceiveOutcome::Word(w) => word(w),
         ReceiveOutcome::Rejected(why) => {
             text(b" rejected");
-            part(refusals::number(why) as u64);
+            part(bits::refusals::number(why) as u64);
         }
         ReceiveOutcome::Refused(why) => {
             text(b" refused");
-            part(refusals::number(why) as u64);
+            part(bits::refusals::number(why) as u64);
         }
     }
 }

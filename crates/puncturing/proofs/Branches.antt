@@ -11,16 +11,16 @@ use Rattle.bits.specs.Bits.{bit, bits, allBinary, disagreements, tally}
 use Rattle.bits.proofs.Binary.{binary-at, differ-le}
 use Rattle.bits.proofs.Filled.{Filling}
 use Rattle.coding.specs.Codes.{acelp}
-use Rattle.survivors.specs.Engine.{Rows, branchBy}
+use Rattle.search.specs.Forward.{Rows, branchBy}
 use Rattle.trellis.specs.Numbering.{newestLow}
-use Rattle.places.specs.Places.{outputAt}
+use Rattle.search.specs.Row.{outputAt}
 use Rattle.trellis.specs.Search.{FoundFirst}
 use Rattle.trellis.specs.Words.{Leads, Terminated, wordMetric}
 use Rattle.trellis.specs.declared.Outcome.{Outcome}
 use Rattle.trellis.proofs.PathWord.{leads-terminated, terminated-leads}
 use Rattle.trellis.proofs.Registers.{register-low}
 use Rattle.trellis.proofs.Searching.{found-first-to}
-use Rattle.places.proofs.ByPlace.{RowAt, metric-coded, outputsAt}
+use Rattle.search.proofs.ByPlace.{RowAt, metric-coded, outputsAt}
 use Rattle.viterbi.specs.Rows.{DistancesTo, distanceAt, pairOf}
 use Rattle.puncturing.specs.Punctured.{weight}
 use Rattle.puncturing.specs.Rows.{StepRows, SymbolsTo}

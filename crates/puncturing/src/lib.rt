@@ -56,5 +56,5 @@ pub fn punctured(coded: &[u8], word: &mut [u8]) -> Outcome
     let rows = step_rows();
     let mut symbols = [0u8; 108];
     fill_symbols(coded, &mut symbols);
-    searches::nearest_between(&rows, &symbols, 0, 0, word)
+    search::nearest_between(&rows, &symbols, 0, 0, word)
 }

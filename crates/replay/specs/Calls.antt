@@ -2,7 +2,7 @@
 use mathlib.Core.List.{List}
 use Prim.Native.Nat.{ℕ, _+_, _-_, _<_, _≤_}
 use lib.ListN.{length, take, drop}
-use Rattle.coding.specs.declared.checksum.CrcMode.the-variants.{Broadcast, Addressed}
+use Rattle.checksums.specs.declared.CrcMode.the-variants.{Broadcast, Addressed}
 use Rattle.text.specs.Lines.{LineEnd}
 use Rattle.replay_dcch.specs.Blocks.{EncodeLine, DecodeLine, SoftLine}
 use Rattle.replay_coding.specs.Calls.{AcelpLine, Checksum7Line, ChecksumLine, DcchLine, FacchLine, SearchLine}

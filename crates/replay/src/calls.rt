@@ -1,5 +1,5 @@
 // Which kind of call a line is, and whether its answer is the proved crate's.
-use coding::checksum::CrcMode;
+use checksums::CrcMode;
 use replay_coding::acelp_agrees;
 use replay_coding::checksum7_agrees;
 use replay_coding::dcch_agrees;

@@ -8,8 +8,8 @@ use Rattle.bits.specs.Bits.{allBinary, bit, bits}
 use Rattle.bits.specs.Refusals.{accepted}
 use Rattle.coding.specs.Codes.{dcch, facch, acelp}
 use Rattle.coding.specs.Registers.{memoryHigh, memoryLow, Stepped}
-use Rattle.coding.specs.Checksums.{checksum7Of, checksumOf, ofBits}
-use Rattle.coding.specs.declared.checksum.CrcMode.{CrcMode}
+use Rattle.checksums.specs.Checksums.{checksum7Of, checksumOf, ofBits}
+use Rattle.checksums.specs.declared.CrcMode.{CrcMode}
 use Rattle.trellis.specs.Search.{FoundFirst}
 use Rattle.trellis.specs.declared.Outcome.{Outcome}
 use Rattle.trellis.specs.Words.{Terminated}

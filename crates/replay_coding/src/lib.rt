@@ -1,10 +1,10 @@
 // Lines of steps, checksums and searches, one function for each kind: whether a line has the kind's form and its answer is the proved crate's.
 use bits::all_binary;
 use bits::wide;
-use coding::checksum::Checked;
-use coding::checksum::CrcMode;
-use coding::checksum::checksum;
-use coding::checksum::checksum7;
+use checksums::Checked;
+use checksums::CrcMode;
+use checksums::checksum;
+use checksums::checksum7;
 use text::digit;
 use text::has_shape;
 use text::read_bits;
@@ -15,7 +15,7 @@ ghost use mathlib.Core.Bool.{true};
 ghost use Prim.Native.Nat.{_*_, _≤_};
 ghost use lib.ListN.{length, getD};
 ghost use Rattle.bits.specs.Refusals.{accepted};
-ghost use Rattle.coding.specs.Checksums.{answerOf};
+ghost use Rattle.checksums.specs.Checksums.{answerOf};
 ghost use Rattle.text.specs.Lines.{bitsIn, digitAt, twoAt};
 ghost use Rattle.replay_coding.specs.Calls.{AcelpLine, Checksum7Is, Checksum7Line, ChecksumIs, DcchLine, FacchLine, SearchLine, Searched};
 

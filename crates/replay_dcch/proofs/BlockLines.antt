@@ -10,10 +10,10 @@ use lib.ListN.{length, getD, take, drop, length-drop}
 use lib.Seq.{take-all}
 use lib.Ieee.{Float, nan, inf}
 use borrow.Author.Tests.{lt-ltb, le-ltb}
-use Rattle.coding.specs.declared.checksum.CrcMode.{CrcMode}
-use Rattle.dcch_wire.specs.Formats.{encodedBits, informationBits}
-use Rattle.dcch_wire.specs.declared.BlockFormat.{BlockFormat}
-use Rattle.dcch_wire.specs.declared.BlockFormat.the-variants.{Forward, ReverseNormal, ReverseAbbreviated}
+use Rattle.checksums.specs.declared.CrcMode.{CrcMode}
+use Rattle.dcch_interleaver.specs.Formats.{encodedBits, informationBits}
+use Rattle.dcch_interleaver.specs.declared.BlockFormat.{BlockFormat}
+use Rattle.dcch_interleaver.specs.declared.BlockFormat.the-variants.{Forward, ReverseNormal, ReverseAbbreviated}
 use Rattle.text.specs.Lines.{digitOf, twoAt}
 use Rattle.replay_dcch.specs.Blocks.{blockIn, formatIn, informationIn, modeIn, reliabilities, reliabilityOf}
 

@@ -8,14 +8,14 @@ use lib.ListN.{length, getD, take, drop}
 use lib.Ieee.{Float, nan, inf, binary64, ofBits, neg}
 use Rattle.bits.specs.Refusals.{Answer, accepted, refused}
 use Rattle.bits.specs.declared.Refusal.the-variants.{Crc}
-use Rattle.coding.specs.declared.checksum.CrcMode.{CrcMode}
-use Rattle.coding.specs.declared.checksum.CrcMode.the-variants.{Broadcast, Addressed}
-use Rattle.dcch_block.specs.Blocks.{Encoding, Decoding, decodeAnswer}
-use Rattle.dcch_wire.specs.Formats.{encodedBits, informationBits}
+use Rattle.checksums.specs.declared.CrcMode.{CrcMode}
+use Rattle.checksums.specs.declared.CrcMode.the-variants.{Broadcast, Addressed}
+use Rattle.dcch.specs.Blocks.{Encoding, Decoding, decodeAnswer}
+use Rattle.dcch_interleaver.specs.Formats.{encodedBits, informationBits}
 use Rattle.dcch.specs.SoftBlocks.{SoftDecoding}
-use Rattle.dcch_wire.specs.declared.BlockFormat.{BlockFormat}
-use Rattle.dcch_wire.specs.declared.BlockFormat.the-variants.{Forward, ReverseNormal, ReverseAbbreviated}
-use Rattle.dcch_block.specs.declared.Decoded.{Decoded}
+use Rattle.dcch_interleaver.specs.declared.BlockFormat.{BlockFormat}
+use Rattle.dcch_interleaver.specs.declared.BlockFormat.the-variants.{Forward, ReverseNormal, ReverseAbbreviated}
+use Rattle.dcch.specs.declared.block.Decoded.{Decoded}
 use Rattle.bits.specs.declared.Wrote.the-variants as wrote
 use Rattle.text.specs.Lines.{bitsIn, digitAt, digitOf, shaped, twoAt}
 

@@ -2,7 +2,7 @@
 use bits::Refusal;
 use bits::Wrote;
 use bits::wide;
-use coding::checksum::CrcMode;
+use checksums::CrcMode;
 use dcch::BlockFormat;
 use dcch::Decoded;
 use dcch::decode;
@@ -18,7 +18,7 @@ ghost use mathlib.Core.Bool.{true};
 ghost use Prim.Native.Nat.{_+_, _*_, _≤_};
 ghost use lib.ListN.{length};
 ghost use Rattle.bits.specs.declared.Refusal.the-variants.{Crc};
-ghost use Rattle.dcch_block.specs.Blocks.{Decoding, Encoding, decodeAnswer};
+ghost use Rattle.dcch.specs.Blocks.{Decoding, Encoding, decodeAnswer};
 ghost use Rattle.dcch.specs.SoftBlocks.{SoftDecoding};
 ghost use Rattle.bits.specs.declared.Wrote.the-variants as wrote;
 ghost use Rattle.text.specs.Lines.{bitsIn, digitAt, twoAt};

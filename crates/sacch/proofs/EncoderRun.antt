@@ -10,8 +10,8 @@ use Rattle.bits.specs.Refusals.{accepted, refused}
 use Rattle.bits.specs.declared.Lent.{Lent}
 use Rattle.bits.specs.declared.Refusal.the-variants.{Symbol}
 use Rattle.bits.proofs.Ring.{Holds, holds-next}
-use Rattle.diagonal.proofs.Diagonal.{diagonal, field-of}
-use Rattle.diagonal.proofs.Rings.{after, after-start, after-then}
+use Rattle.sacch_interleaver.proofs.Diagonal.{diagonal, field-of}
+use Rattle.sacch_interleaver.proofs.Rings.{after, after-start, after-then}
 use Rattle.sacch_encoder.specs.Words.{codedRow, memoryAfter, sixesOf, wordOf}
 use Rattle.sacch_encoder.specs.Encoder.{encoded, fieldNow, encodedAll, fieldsFrom, sending, Sent, encodeBitsOf, encodeWordOf}
 use Rattle.sacch_encoder.specs.declared.SacchEncoder.{SacchEncoder}

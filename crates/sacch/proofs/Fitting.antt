@@ -10,17 +10,17 @@ use lib.ListN.{length, length-set}
 use Rattle.bits.specs.Refusals.{Answer, accepted, pending, rejected, refused, firstOf, belowOf}
 use Rattle.bits.specs.declared.Lent.the-variants.{Fine, Refused}
 use Rattle.bits.specs.declared.Refusal.the-variants.{State, Symbol}
-use Rattle.diagonal.specs.Diagonal.{rowOf}
-use Rattle.diagonal.proofs.Diagonal.{twelve-below}
-use Rattle.diagonal.proofs.Twelve.{twelve-set}
+use Rattle.sacch_interleaver.specs.Diagonal.{rowOf}
+use Rattle.sacch_interleaver.proofs.Diagonal.{twelve-below}
+use Rattle.sacch_interleaver.proofs.Twelve.{twelve-set}
 use Rattle.sacch_encoder.specs.Encoder.{encoderFits, encoded, encodedAll}
 use Rattle.sacch_encoder.specs.declared.SacchEncoder.{SacchEncoder}
 use Rattle.sacch_encoder.proofs.Fits as encoder
 use Rattle.sacch_decoder.specs.declared.SacchWord.{SacchWord}
 use Rattle.sacch_receiver.proofs.Fitting.{Fit}
 use Rattle.sacch_receiver.specs.Receiver.{receiverFits, fieldStored, rowStored, locked, trialLock, tried, stepOf, Moved}
-use Rattle.sacch_stored.specs.Stored.{lockFits, tries, windowOf, decodeRows}
-use Rattle.sacch_stored.specs.declared.Lock.{Lock}
+use Rattle.sacch_receiver.specs.Stored.{lockFits, tries, windowOf, decodeRows}
+use Rattle.sacch_receiver.specs.declared.stored.Lock.{Lock}
 use Rattle.sacch_receiver.specs.declared.SacchReceiver.{SacchReceiver}
 
 -- ---- a call on a state that fits: only its number is left to test

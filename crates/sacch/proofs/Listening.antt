@@ -8,12 +8,12 @@ use lib.Seq.{length-take-le, getD-take, getD-drop}
 use Rattle.bits.specs.Places.{listed}
 use Rattle.bits.specs.Refusals.{Answer, accepted, pending}
 use Rattle.bits.proofs.Listed.{is-listed}
-use Rattle.diagonal.proofs.Diagonal.{diagonal}
+use Rattle.sacch_interleaver.proofs.Diagonal.{diagonal}
 use Rattle.sacch_encoder.specs.Encoder.{fieldsFrom}
 use Rattle.sacch_encoder.specs.declared.SacchEncoder.{SacchEncoder}
 use Rattle.sacch_encoder.proofs.Fits.{fit-of}
 use Rattle.sacch_decoder.specs.declared.SacchWord.{SacchWord}
-use Rattle.sacch_stored.specs.Stored.{decodeRows}
+use Rattle.sacch_receiver.specs.Stored.{decodeRows}
 use Rattle.sacch_receiver.specs.Receiver.{stepOf}
 use Rattle.sacch_receiver.specs.declared.SacchReceiver.{SacchReceiver}
 use Rattle.sacch.specs.Calls.{EncoderCall, Given, fieldsSent, Push, answers}

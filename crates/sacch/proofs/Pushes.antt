@@ -9,7 +9,7 @@ use Rattle.bits.specs.Refusals.{Answer, accepted, pending, rejected, refused}
 use Rattle.bits.specs.declared.Lent.{Lent}
 use Rattle.sacch_decoder.specs.declared.SacchWord.{SacchWord}
 use Rattle.sacch_receiver.specs.Receiver.{fieldStored, trialAnswer, tried, stepOf, pushing, pushOf, Moved}
-use Rattle.sacch_stored.specs.Stored.{tries, windowOf, decodeRows}
+use Rattle.sacch_receiver.specs.Stored.{tries, windowOf, decodeRows}
 use Rattle.sacch_receiver.specs.declared.SacchReceiver.{SacchReceiver}
 use Rattle.sacch.specs.Calls.{Push, Fields, no-fields, pushed, refused-field, counted, answers}
 use Rattle.sacch.proofs.Fitting.{Fitting, fits, step-fits, either, call-fine, call-refused}

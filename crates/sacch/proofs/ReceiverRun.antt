@@ -13,12 +13,12 @@ use Rattle.bits.specs.Places.{listed}
 use Rattle.bits.specs.Refusals.{Answer, pending}
 use Rattle.bits.proofs.Listed.{length-listed, getD-listed, is-listed}
 use Rattle.bits.proofs.Ring.{Holds, holds-next}
-use Rattle.diagonal.specs.Diagonal.{bitOf, rowOf}
-use Rattle.diagonal.proofs.Diagonal.{diagonal, diagonal-below, undone, row-of, twelve-same}
-use Rattle.diagonal.proofs.Rings.{after, after-start, after-then}
+use Rattle.sacch_interleaver.specs.Diagonal.{bitOf, rowOf}
+use Rattle.sacch_interleaver.proofs.Diagonal.{diagonal, diagonal-below, undone, row-of, twelve-same}
+use Rattle.sacch_interleaver.proofs.Rings.{after, after-start, after-then}
 use Rattle.sacch_decoder.specs.declared.SacchWord.{SacchWord}
 use Rattle.sacch_receiver.specs.Receiver.{fieldStored, rowStored, locked, trialAnswer, trialLock, tried, stepOf, Moved}
-use Rattle.sacch_stored.specs.Stored.{tries, windowOf, decodeRows}
+use Rattle.sacch_receiver.specs.Stored.{tries, windowOf, decodeRows}
 use Rattle.sacch_receiver.specs.declared.SacchReceiver.{SacchReceiver}
 use Rattle.sacch.proofs.Fitting.{Fitting, step-fits, either}
 use Rattle.sacch.proofs.Trials.{Windows, Trials}

@@ -8,10 +8,10 @@ use native.Mathlib.Omega.{arith}
 use borrow.Author.Tests.{eq-eqb, ne-eqb, ltb-true}
 use Rattle.bits.specs.Refusals.{Answer, accepted, pending, rejected, refused}
 use Rattle.sacch_decoder.specs.declared.SacchWord.{SacchWord}
-use Rattle.sacch_stored.specs.Stored.{tries, lockFits}
+use Rattle.sacch_receiver.specs.Stored.{tries, lockFits}
 use Rattle.sacch_receiver.specs.Receiver.{trialAnswer, trialLock}
-use Rattle.sacch_stored.specs.declared.Lock.{Lock}
-use Rattle.sacch_stored.specs.declared.Lock.the-variants.{Unlocked, Locked}
+use Rattle.sacch_receiver.specs.declared.stored.Lock.{Lock}
+use Rattle.sacch_receiver.specs.declared.stored.Lock.the-variants.{Unlocked, Locked}
 
 -- Of the eleven rows of trial t: the word sent where row a + t begins one, else no word.
 pub record Windows (a N : ℕ) (sent : ℕ → SacchWord) (rows : ℕ → Answer SacchWord) : Type 0 where

@@ -23,7 +23,7 @@ use Rattle.sacch_encoder.specs.Words.{wordOf, sixesOf, codedRow, memoryAfter}
 use Rattle.sacch.proofs.RoundTrip.{word-length}
 use Rattle.sacch_encoder.proofs.Rows.{row-length, memory-below, memory-holds}
 use Rattle.sacch_decoder.specs.Decoding.{decodeOf}
-use Rattle.sacch_stored.specs.Stored.{rowBits, decodeRows}
+use Rattle.sacch_receiver.specs.Stored.{rowBits, decodeRows}
 use Rattle.sacch.specs.Calls.{EncoderCall, Given, Words, no-words, sent, refused-word, refused-bits}
 use Rattle.sacch.specs.Listening.{rowsFrom, memoryFrom, sixesFor, sixesForAll, wordSent}
 use Rattle.sacch.proofs.RoundTrip.{round-trip}

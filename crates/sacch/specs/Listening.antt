@@ -11,7 +11,7 @@ use Rattle.sacch_encoder.specs.Encoder.{encoderFits}
 use Rattle.sacch_encoder.specs.declared.SacchEncoder.{SacchEncoder}
 use Rattle.sacch_decoder.specs.declared.SacchWord.{SacchWord}
 use Rattle.sacch_receiver.specs.Receiver.{receiverFits}
-use Rattle.sacch_stored.specs.Stored.{decodeRows}
+use Rattle.sacch_receiver.specs.Stored.{decodeRows}
 use Rattle.sacch_receiver.specs.declared.SacchReceiver.{SacchReceiver}
 use Rattle.sacch.specs.Calls.{EncoderCall, Given, Words, fieldsSent, Push, Fields, answers}
 

@@ -14,8 +14,8 @@ use Rattle.bits.specs.declared.Refusal.the-variants as refusal
 use Rattle.trellis.specs.Search.{Nearest, Ambiguous}
 use Rattle.trellis.specs.Words.{OfLength}
 use Rattle.viterbi.specs.Hard.{freeWeight}
-use Rattle.nearest.specs.Nearest.{nearestWords}
-use Rattle.nearest.proofs.Members.{alone, shared, shared-back, some-nearest, at-least-one}
+use Rattle.trellis.specs.Nearest.{nearestWords}
+use Rattle.trellis.proofs.Members.{alone, shared, shared-back, some-nearest, at-least-one}
 use Rattle.sacch_decoder.specs.Decoding.{sound, contentOf, finished, nearestTo, decodeOf}
 use Rattle.sacch_decoder.specs.declared.SacchWord.{SacchWord}
 

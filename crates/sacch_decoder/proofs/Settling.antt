@@ -19,7 +19,7 @@ use Rattle.trellis.specs.declared.Outcome.{Outcome}
 use Rattle.viterbi.specs.Hard.{freeWeight}
 use Rattle.words.specs.Words.{messageIn}
 use Rattle.words.proofs.Parts.{flag}
-use Rattle.nearest.proofs.Members.{found-alone, found-shared}
+use Rattle.trellis.proofs.Members.{found-alone, found-shared}
 use Rattle.sacch_decoder.specs.Decoding.{sound, contentOf, finished, decodeOf, lentDecode, decoding}
 use Rattle.sacch_decoder.specs.declared.SacchWord.{SacchWord}
 use Rattle.sacch_decoder.proofs.Meaning.{decode-one, decode-more}

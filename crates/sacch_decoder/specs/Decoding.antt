@@ -13,7 +13,7 @@ use Rattle.bits.specs.declared.Refusal.the-variants as refusal
 use Rattle.words.specs.Words as words
 use Rattle.words.specs.Words.{messageIn}
 use Rattle.viterbi.specs.Hard.{freeWeight}
-use Rattle.nearest.specs.Nearest.{nearestWords}
+use Rattle.trellis.specs.Nearest.{nearestWords}
 use Rattle.sacch_decoder.specs.declared.SacchWord.{SacchWord}
 use Rattle.sacch_decoder.specs.declared.Decoded.{Decoded}
 use Rattle.sacch_decoder.specs.declared.Decoded.the-variants as decoded

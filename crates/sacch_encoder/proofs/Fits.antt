@@ -12,8 +12,8 @@ use Rattle.bits.specs.declared.Lent.the-variants.{Fine}
 use Rattle.bits.specs.declared.Refusal.the-variants.{State}
 use Rattle.bits.proofs.Binary.{cond-true}
 use Rattle.bits.proofs.Refusing.{passed, fine-first}
-use Rattle.diagonal.specs.Diagonal.{allTwelve}
-use Rattle.diagonal.proofs.Twelve.{twelve-set}
+use Rattle.sacch_interleaver.specs.Diagonal.{allTwelve}
+use Rattle.sacch_interleaver.proofs.Twelve.{twelve-set}
 use Rattle.sacch_encoder.specs.Encoder.{encoderFits, encoderState, encoded}
 use Rattle.sacch_encoder.specs.declared.SacchEncoder.{SacchEncoder}
 use Rattle.sacch_encoder.proofs.Rows.{row-below, memory-below}

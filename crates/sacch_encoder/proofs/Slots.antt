@@ -11,9 +11,9 @@ use Rattle.bits.specs.Places.{listed}
 use Rattle.bits.proofs.Filled.{set-more}
 use Rattle.bits.proofs.Listed.{is-listed}
 use Rattle.bits.proofs.Ring.{Holds, holds-next}
-use Rattle.diagonal.specs.Diagonal.{fieldOf}
-use Rattle.diagonal.proofs.Diagonal.{diagonal, field-of}
-use Rattle.diagonal.proofs.Rings.{after, after-start, after-then}
+use Rattle.sacch_interleaver.specs.Diagonal.{fieldOf}
+use Rattle.sacch_interleaver.proofs.Diagonal.{diagonal, field-of}
+use Rattle.sacch_interleaver.proofs.Rings.{after, after-start, after-then}
 use Rattle.sacch_encoder.specs.Encoder.{encoded, encodedAll, fieldsFrom, fieldNow}
 use Rattle.sacch_encoder.specs.Words.{codedRow, memoryAfter}
 use Rattle.sacch_encoder.specs.declared.SacchEncoder.{SacchEncoder}

@@ -9,7 +9,7 @@ use Rattle.bits.specs.Calls.{wroteAnswer}
 use Rattle.bits.specs.declared.Lent.{Lent}
 use Rattle.bits.specs.declared.Lent.the-variants.{Fine, Refused}
 use Rattle.bits.specs.declared.Refusal.the-variants.{State}
-use Rattle.diagonal.specs.Diagonal.{allTwelve, fieldOf}
+use Rattle.sacch_interleaver.specs.Diagonal.{allTwelve, fieldOf}
 use Rattle.sacch_encoder.specs.Words.{codedRow, memoryAfter, sixesOf, wordOf}
 use Rattle.sacch_encoder.specs.declared.SacchEncoder.{SacchEncoder}
 use Rattle.sacch_encoder.specs.declared.EncodedField.{EncodedField}

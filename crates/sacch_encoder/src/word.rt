@@ -1,14 +1,14 @@
 // The row of six bits of a word, and the fields of its rows.
 // Ported from 136-bts, sacch.rs, and changed (see NOTICE).
 use coding::dcch::transition;
-use diagonal::field_among;
+use sacch_interleaver::field_among;
 ghost use mathlib.Core.Bool.{true};
 ghost use mathlib.Core.Path.{_≡_};
 ghost use Prim.Native.Nat.{ℕ, _+_, _<_};
 ghost use lib.ListN.{drop, getD, length, take};
 ghost use Rattle.bits.specs.Bits.{allBinary, bits};
 ghost use Rattle.bits.specs.Numbers.{packed};
-ghost use Rattle.diagonal.specs.Diagonal.{fieldOf};
+ghost use Rattle.sacch_interleaver.specs.Diagonal.{fieldOf};
 ghost use Rattle.sacch_encoder.specs.Words.{codedRow, memoryAfter};
 
 // Six inputs coded: their row, and the memory after them.

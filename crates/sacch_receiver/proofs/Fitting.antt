@@ -5,8 +5,8 @@ use Prim.Native.Nat.{_<_}
 use lib.Dec.{ltb}
 use borrow.Author.Tests.{ltb-true}
 use Rattle.bits.proofs.Binary.{cond-and, cond-true}
-use Rattle.diagonal.specs.Diagonal.{allTwelve}
-use Rattle.sacch_stored.specs.Stored.{lockFits}
+use Rattle.sacch_interleaver.specs.Diagonal.{allTwelve}
+use Rattle.sacch_receiver.specs.Stored.{lockFits}
 use Rattle.sacch_receiver.specs.Receiver.{receiverFits}
 use Rattle.sacch_receiver.specs.declared.SacchReceiver.{SacchReceiver}
 

@@ -6,10 +6,10 @@ use native.Mathlib.Omega.{arith}
 use lib.Dec.{ltb}
 use borrow.Author.Tests.{le-ltb}
 use Rattle.bits.specs.Refusals.{Answer, pending}
-use Rattle.diagonal.specs.Diagonal.{rowOf}
+use Rattle.sacch_interleaver.specs.Diagonal.{rowOf}
 use Rattle.sacch_decoder.specs.declared.SacchWord.{SacchWord}
 use Rattle.sacch_receiver.specs.Receiver.{Moved, fieldStored, locked, pushOf, pushWordOf, rowFound, rowStored, stepOf, trialAnswer, trialLock, tried, wordOnly}
-use Rattle.sacch_stored.specs.Stored.{decodeRows, tries, windowOf}
+use Rattle.sacch_receiver.specs.Stored.{decodeRows, tries, windowOf}
 use Rattle.sacch_receiver.specs.declared.Row.{Row}
 use Rattle.sacch_receiver.specs.declared.Row.the-variants.{Missing, Complete}
 use Rattle.sacch_receiver.specs.declared.SacchReceiver.{SacchReceiver}

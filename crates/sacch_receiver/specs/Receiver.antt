@@ -7,12 +7,12 @@ use Rattle.bits.specs.Refusals.{Answer, accepted, pending, rejected, refused, f
 use Rattle.bits.specs.declared.Lent.{Lent}
 use Rattle.bits.specs.declared.Lent.the-variants.{Fine, Refused}
 use Rattle.bits.specs.declared.Refusal.the-variants.{State}
-use Rattle.diagonal.specs.Diagonal.{allTwelve, rowOf}
+use Rattle.sacch_interleaver.specs.Diagonal.{allTwelve, rowOf}
 use Rattle.sacch_decoder.specs.declared.SacchWord.{SacchWord}
 use Rattle.sacch_receiver.specs.declared.SacchReceiver.{SacchReceiver}
-use Rattle.sacch_stored.specs.Stored.{lockFits, tries, windowOf, decodeRows}
-use Rattle.sacch_stored.specs.declared.Lock.{Lock}
-use Rattle.sacch_stored.specs.declared.Lock.the-variants.{Unlocked, Locked}
+use Rattle.sacch_receiver.specs.Stored.{lockFits, tries, windowOf, decodeRows}
+use Rattle.sacch_receiver.specs.declared.stored.Lock.{Lock}
+use Rattle.sacch_receiver.specs.declared.stored.Lock.the-variants.{Unlocked, Locked}
 use Rattle.sacch_receiver.specs.declared.Row.{Row}
 use Rattle.sacch_receiver.specs.declared.Row.the-variants.{Missing, Complete}
 use Rattle.sacch_receiver.specs.declared.ReceiveOutcome.{ReceiveOutcome}

@@ -2,10 +2,11 @@
 // Ported from 136-bts, sacch.rs, and changed (see NOTICE).
 mod receiver;
 mod state;
+pub mod stored;
 
+pub use crate::stored::Lock;
 use bits::Refusal;
 use sacch_decoder::SacchWord;
-pub use sacch_stored::Lock;
 
 // What twelve stored fields give: the row that the newest completes, or nothing yet.
 pub enum Row {

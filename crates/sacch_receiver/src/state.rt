@@ -1,9 +1,9 @@
 // The states that refusal 8 lets pass.
 // Ported from 136-bts, sacch.rs, and changed (see NOTICE).
 use crate::SacchReceiver;
+use crate::stored::lock_fits;
+use crate::stored::stored_fit;
 use bits::both;
-use sacch_stored::lock_fits;
-use sacch_stored::stored_fit;
 ghost use mathlib.Core.Path.{_≡_};
 ghost use Rattle.sacch_receiver.specs.Receiver.{receiverFits};
 

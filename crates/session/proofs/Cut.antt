@@ -3,11 +3,11 @@ use mathlib.Core.Path.{_≡_, ap}
 use mathlib.Core.List.{List}
 use Prim.Native.Nat.{ℕ}
 use lib.ListN.{take}
-use Rattle.printing.specs.Printing.{replyText}
-use Rattle.replies.specs.declared.Replied.{Replied}
+use Rattle.lines.specs.Printing.{replyText}
+use Rattle.session.specs.declared.replies.Replied.{Replied}
 use Rattle.session.specs.Output.{State, next, said}
-use Rattle.totals.specs.Totals.{addedBy, counted, summed}
-use Rattle.replies.proofs.Replying.{replied-cut}
+use Rattle.session.specs.Totals.{addedBy, counted, summed}
+use Rattle.session.proofs.Replying.{replied-cut}
 
 pub next-cut : (s : State) (l : List ℕ) → next s (take 137 l) ≡ next s l
 unfolding next

@@ -6,15 +6,15 @@ use Prim.Native.Nat.{ℕ, zero, suc, _+_, _-_, _<_, _≤_}
 use native.Mathlib.Omega.{arith}
 use borrow.Author.Tests.{ne-eqb}
 use lib.ListN.{getD, set, take, length-set}
-use Rattle.printing.specs.Printing.{replyText}
-use Rattle.numerals.specs.Writing.{Put}
-use Rattle.numerals.proofs.Stored.{put-nothing}
-use Rattle.replies.specs.declared.Replied.{Replied}
+use Rattle.lines.specs.Printing.{replyText}
+use Rattle.text.specs.Writing.{Put}
+use Rattle.text.proofs.Stored.{put-nothing}
+use Rattle.session.specs.declared.replies.Replied.{Replied}
 use Rattle.session.specs.declared.Session.{Session}
-use Rattle.totals.specs.declared.Tally.{Tally}
+use Rattle.session.specs.declared.totals.Tally.{Tally}
 use Rattle.session.specs.Output.{next, said}
-use Rattle.totals.specs.Totals.{addedBy, counted, summed, Light}
-use Rattle.replies.specs.Replies.{replyTo}
+use Rattle.session.specs.Totals.{addedBy, counted, summed, Light}
+use Rattle.session.specs.Replies.{replyTo}
 use Rattle.session.specs.Scanning.{ended, endSaid}
 use Rattle.session.specs.Contracts.{LineEnded, Modest, Sound, viewOf}
 

@@ -7,11 +7,11 @@ use native.Mathlib.Omega.{arith}
 use borrow.Author.Tests.{eq-eqb, ne-eqb}
 use lib.ListN.{length, take}
 use lib.Seq.{length-take-le}
-use Rattle.numerals.specs.Writing.{Put}
-use Rattle.numerals.proofs.Stored.{put-then, put-nothing}
+use Rattle.text.specs.Writing.{Put}
+use Rattle.text.proofs.Stored.{put-then, put-nothing}
 use Rattle.session.specs.declared.Fed.{Fed}
 use Rattle.session.specs.declared.Session.{Session}
-use Rattle.totals.specs.Totals.{closing}
+use Rattle.session.specs.Totals.{closing}
 use Rattle.session.specs.Scanning.{Scan, closed, closeSaid}
 use Rattle.session.specs.Contracts.{Closed, LineEnded, Sound, endText, viewOf}
 

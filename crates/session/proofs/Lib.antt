@@ -1,6 +1,13 @@
 -- The laws.
+-- The laws.
+-- The laws.
+-- The laws.
 pub mod Cut
 pub mod Whole
 pub mod Unread
 pub mod Ended
 pub mod Ending
+pub mod Replying
+pub mod Closing
+pub mod Gathered
+pub mod Stepped

@@ -6,7 +6,7 @@ use Prim.Native.Nat.{ℕ}
 use lib.Dec.{eqb}
 use lib.ListN.{length}
 use Rattle.session.specs.Output.{State}
-use Rattle.totals.specs.Totals.{closing}
+use Rattle.session.specs.Totals.{closing}
 use Rattle.session.specs.Scanning.{Scan, ended, endSaid, grown, byteSeen, byteSaid, seen, heard, closed, closeSaid}
 use Rattle.session.specs.Contracts.{endText}
 

@@ -8,7 +8,7 @@ use lib.Dec.{eqb, eqb·suc-zero}
 use lib.ListN.{length, take}
 use lib.Seq.{take-nil}
 use Rattle.session.specs.Output.{State, next, said, after, spoken, linesFrom, linesOf, fresh, output}
-use Rattle.totals.specs.Totals.{closing}
+use Rattle.session.specs.Totals.{closing}
 use Rattle.session.specs.Scanning.{Scan, ended, endSaid, grown, byteSeen, byteSaid, seen, heard, closed, closeSaid}
 use Rattle.session.specs.Contracts.{atStart, endText}
 use Rattle.session.proofs.Cut.{next-cut, said-cut}

@@ -3,11 +3,11 @@ use mathlib.Core.Path.{_≡_}
 use mathlib.Core.List.{List, [], _++_}
 use Prim.Native.Nat.{ℕ, _+_, _-_, _*_, _≤_}
 use lib.ListN.{length, getD, take, drop}
-use Rattle.numerals.specs.Writing.{Put}
+use Rattle.text.specs.Writing.{Put}
 use Rattle.session.specs.declared.Fed.{Fed}
 use Rattle.session.specs.declared.Session.{Session}
-use Rattle.totals.specs.Totals.{closing}
-use Rattle.totals.specs.declared.Tally.{Tally}
+use Rattle.session.specs.Totals.{closing}
+use Rattle.session.specs.declared.totals.Tally.{Tally}
 use Rattle.session.specs.Output.{fresh}
 use Rattle.session.specs.Scanning.{Scan, ended, endSaid, seen, heard, closed, closeSaid}
 

@@ -5,12 +5,12 @@ use mathlib.Core.List.{List, [], _∷_, _++_}
 use Prim.Native.Nat.{ℕ, _+_}
 use lib.Dec.{eqb}
 use lib.ListN.{length, replicate, take}
-use Rattle.printing.specs.Printing.{replyText}
+use Rattle.lines.specs.Printing.{replyText}
 use Rattle.sacch_receiver.specs.Receiver.{freshReceiver}
 use Rattle.sacch_receiver.specs.declared.SacchReceiver.{SacchReceiver}
-use Rattle.totals.specs.declared.Tally.{Tally}
-use Rattle.replies.specs.Replies.{replyTo}
-use Rattle.totals.specs.Totals.{addedBy, closing, counted, noWord, summed}
+use Rattle.session.specs.declared.totals.Tally.{Tally}
+use Rattle.session.specs.Replies.{replyTo}
+use Rattle.session.specs.Totals.{addedBy, closing, counted, noWord, summed}
 
 -- ---- the lines of an input
 -- each ends at LF (10), `part` being the start of the first; a last line without LF counts if it is not empty

@@ -1,17 +1,21 @@
 // A run of the program `frames` between its reads and writes: a line answered and counted where it ends, and the closing lines.
 // specs/Output.antt has what is written for a whole input, as one definition.
-use printing::put_reply;
-use replies::reply_to;
+pub mod pieces;
+pub mod replies;
+pub mod totals;
+
+use crate::replies::reply_to;
+use crate::totals::Tally;
+use crate::totals::added;
+use crate::totals::count;
+use crate::totals::put_closing;
+use crate::totals::sum;
+use lines::reply::put_reply;
 use sacch::SacchReceiver;
-use totals::Tally;
-use totals::added;
-use totals::count;
-use totals::put_closing;
-use totals::sum;
 ghost use mathlib.Core.Path.{_≡_};
 ghost use Prim.Native.Nat.{_+_, _≤_};
 ghost use lib.ListN.{length};
-ghost use Rattle.numerals.specs.Writing.{Put};
+ghost use Rattle.text.specs.Writing.{Put};
 ghost use Rattle.session.specs.Contracts.{Closed, LineEnded, Sound, begun, endText, viewOf};
 
 // All that goes from one piece of the input to the next, but for two lent buffers: the line so far, and how many words each colour code has.

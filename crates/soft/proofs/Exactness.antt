@@ -26,8 +26,8 @@ use Rattle.trellis.proofs.Distance as distance
 use Rattle.trellis.proofs.Doubles.{add-value, asDouble, doubles-count}
 use Rattle.trellis.proofs.Embed as embed
 use Rattle.trellis.proofs.FixedStart as fixed
-use Rattle.reliability.specs.Reliability.{zeroF, magnitude, negative, bitCost, signF, sizeF, WholeWithin, AllWhole, wholeCost}
-use Rattle.soft_step.specs.Branch.{pairCost, softBranch, startIn0, softStart, softTrellis}
+use Rattle.soft.specs.Reliability.{zeroF, magnitude, negative, bitCost, signF, sizeF, WholeWithin, AllWhole, wholeCost}
+use Rattle.soft.specs.Branch.{pairCost, softBranch, startIn0, softStart, softTrellis}
 use Rattle.soft.specs.Soft.{softWord, totalCost}
 
 -- ---- what a coded bit costs

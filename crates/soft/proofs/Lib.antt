@@ -1,7 +1,13 @@
 -- The laws.
+-- The laws.
+-- The laws.
 pub mod Running
 pub mod Tracing
 pub mod ScanOrder
 pub mod RustOrder
 pub mod Exactness
 pub mod Samples
+pub mod Tests
+pub mod Signs
+pub mod Costs
+pub mod Butterflies

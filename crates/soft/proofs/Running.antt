@@ -12,12 +12,12 @@ use Rattle.bits.proofs.Filled.{set-next}
 use Rattle.trellis.specs.Trellis.{doubles, stateMetric, candidate, decision}
 use Rattle.trellis.specs.Numbering.{predHigh}
 use Rattle.trellis.proofs.Registers.{register-high}
-use Rattle.reliability.specs.Reliability.{zeroF}
-use Rattle.soft_step.specs.Branch.{softTrellis}
-use Rattle.soft_step.specs.Step.{lesserOf, chosenOf, candidateOf, Branched, Advanced, Decided}
-use Rattle.soft_step.specs.declared.Branches.{Branches}
-use Rattle.soft_step.specs.declared.Column.{Column}
-use Rattle.soft_step.proofs.Costs.{branch-into}
+use Rattle.soft.specs.Reliability.{zeroF}
+use Rattle.soft.specs.Branch.{softTrellis}
+use Rattle.soft.specs.Step.{lesserOf, chosenOf, candidateOf, Branched, Advanced, Decided}
+use Rattle.soft.specs.declared.step.Branches.{Branches}
+use Rattle.soft.specs.declared.step.Column.{Column}
+use Rattle.soft.proofs.Costs.{branch-into}
 
 -- the metrics after k steps
 abbrev MetricsAt : List Float → List Float → ℕ → Type 0

@@ -14,13 +14,13 @@ use Rattle.coding.specs.Codes.{outputs, dcch}
 use Rattle.coding.specs.Registers.{memoryHigh}
 use Rattle.trellis.specs.Trellis.{doubles, stateMetric, candidate, decision}
 use Rattle.trellis.specs.Numbering.{newestHigh, predHigh}
-use Rattle.survivors.specs.Traceback.{traced}
+use Rattle.search.specs.Traceback.{traced}
 use Rattle.trellis.proofs.Registers.{register-high}
-use Rattle.reliability.specs.Reliability.{zeroF, finite, allFinite, magnitude, negative, bitCost}
-use Rattle.soft_step.specs.Branch.{pairCost, softBranch, softTrellis}
+use Rattle.soft.specs.Reliability.{zeroF, finite, allFinite, magnitude, negative, bitCost}
+use Rattle.soft.specs.Branch.{pairCost, softBranch, softTrellis}
 use Rattle.soft.specs.RustOrder.{rustMetric, rustFrom, rustBits, highest}
 use Rattle.soft.specs.Soft.{softWord}
-use Rattle.reliability.proofs.Tests.{finite-each}
+use Rattle.soft.proofs.Tests.{finite-each}
 use Rattle.soft.proofs.ScanOrder.{displaces, keptFirst, scan-is-next}
 use Rattle.soft.proofs.Tracing.{decided-traced}
 

@@ -11,8 +11,8 @@ use lib.Count.{trailingZeros}
 use Rattle.bits.specs.Bits.{tally}
 use Rattle.coding.specs.Codes.{tapped, coded}
 use Rattle.trellis.specs.Trellis.{stateMetric, survivor, word}
-use Rattle.reliability.specs.Reliability.{magnitude, negative, signCount, bitCost, wholeCost, WholeWithin}
-use Rattle.soft_step.specs.Branch.{pairCost}
+use Rattle.soft.specs.Reliability.{magnitude, negative, signCount, bitCost, wholeCost, WholeWithin}
+use Rattle.soft.specs.Branch.{pairCost}
 use Rattle.soft.specs.Soft.{softWord, totalCost}
 
 abbrev one : Float

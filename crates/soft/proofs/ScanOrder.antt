@@ -11,7 +11,7 @@ use lib.Ieee.{Float, inf, binary64, add, lt}
 use borrow.Author.Tests.{eq-eqb, ne-eqb}
 use Rattle.trellis.specs.Numbering.{newestHigh, predHigh}
 use Rattle.trellis.proofs.Registers.{register-high}
-use Rattle.reliability.specs.Reliability.{finite}
+use Rattle.soft.specs.Reliability.{finite}
 use Rattle.soft.specs.RustOrder.{Stored, written, offer, extend, scan}
 
 -- ---- one offer

@@ -11,12 +11,12 @@ use Rattle.bits.specs.Bits.{bytes}
 use Rattle.bits.proofs.Filled.{drop-set-here}
 use Rattle.trellis.specs.Numbering.{newestHigh, predHigh}
 use Rattle.trellis.specs.Trellis.{doubles, decision}
-use Rattle.survivors.specs.Traceback.{traced}
+use Rattle.search.specs.Traceback.{traced}
 use Rattle.trellis.proofs.Registers.{register-high, high-bit}
-use Rattle.survivors.proofs.Survivors.{traced-word}
-use Rattle.soft_step.specs.Branch.{softBranch, softStart, softTrellis}
+use Rattle.search.proofs.Survivors.{traced-word}
+use Rattle.soft.specs.Branch.{softBranch, softStart, softTrellis}
 use Rattle.soft.specs.RustOrder.{highest}
-use Rattle.soft_step.specs.Step.{rowsAt, Decided}
+use Rattle.soft.specs.Step.{rowsAt, Decided}
 use Rattle.soft.specs.Soft.{softWord}
 
 pub record Tracing (from : ℕ → ℕ → ℕ) (word₀ word : List ℕ) (state step : ℕ) : Type 0 where

@@ -5,9 +5,9 @@ use Prim.Native.Nat.{ℕ, zero, suc, _/_}
 use lib.Dec.{eqb}
 use lib.Ieee.{Float, inf, binary64, add, lt}
 use Rattle.trellis.specs.Numbering.{newestHigh}
-use Rattle.survivors.specs.Traceback.{traced}
-use Rattle.reliability.specs.Reliability.{finite}
-use Rattle.soft_step.specs.Branch.{softBranch, softStart}
+use Rattle.search.specs.Traceback.{traced}
+use Rattle.soft.specs.Reliability.{finite}
+use Rattle.soft.specs.Branch.{softBranch, softStart}
 
 -- what a step has stored so far: `next_metrics` and `predecessors[step]`, by state
 pub record Stored : Type 0 where

@@ -11,8 +11,8 @@ use Rattle.trellis.specs.Numbering.{newestHigh}
 use Rattle.trellis.specs.Trellis.{doubles, survivor, word}
 use Rattle.trellis.specs.Search.{First}
 use Rattle.trellis.specs.Words.{Terminated}
-use Rattle.reliability.specs.Reliability.{allFinite, AllWhole, wholeCost}
-use Rattle.soft_step.specs.Branch.{softTrellis}
+use Rattle.soft.specs.Reliability.{allFinite, AllWhole, wholeCost}
+use Rattle.soft.specs.Branch.{softTrellis}
 use Rattle.soft.specs.RustOrder.{rustBits}
 
 -- the word of the survivor of n steps into state 0

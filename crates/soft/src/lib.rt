@@ -1,28 +1,30 @@
 // Ported from 136-bts, dcch.rs (see NOTICE): `viterbi_soft`, and the tests and the count of `decode_soft`.
 // The soft-decision search of the DCCH code over doubles: specs/Soft.antt says what it finds.
+pub mod reliability;
 mod rows;
+pub mod step;
 
+pub use crate::reliability::abs;
+pub use crate::reliability::all_finite;
+use crate::reliability::infinity;
+pub use crate::reliability::is_finite;
+pub use crate::reliability::sign_count;
+use crate::step::advance;
+use crate::step::branch_metrics;
+use crate::step::output_pairs;
 use bits::wide;
-pub use reliability::abs;
-pub use reliability::all_finite;
-use reliability::infinity;
-pub use reliability::is_finite;
-pub use reliability::sign_count;
 use rows::narrowed;
-use soft_step::advance;
-use soft_step::branch_metrics;
-use soft_step::output_pairs;
 ghost use mathlib.Core.Bool.{false};
 ghost use mathlib.Core.Path.{_≡_};
 ghost use mathlib.Core.List.{[], _∷_};
 ghost use Prim.Native.Nat.{ℕ, _*_, _/_, _<_, _≤_};
 ghost use lib.ListN.{length, replicate};
 ghost use lib.Ieee.{inf};
-ghost use Rattle.survivors.specs.Traceback.{traced};
-ghost use Rattle.reliability.specs.Reliability.{zeroF};
+ghost use Rattle.search.specs.Traceback.{traced};
+ghost use Rattle.soft.specs.Reliability.{zeroF};
 ghost use Rattle.soft.specs.RustOrder.{highest};
 ghost use Rattle.soft.specs.Soft.{SoftFound};
-ghost use Rattle.soft_step.specs.Step.{Decided, rowsAt};
+ghost use Rattle.soft.specs.Step.{Decided, rowsAt};
 
 // The path metrics before the first step: state 0 costs nothing, and no other is reached.
 fn start_metrics() -> [f64; 32]

@@ -2,7 +2,7 @@
 ghost use mathlib.Core.Path.{_≡_};
 ghost use Prim.Native.Nat.{ℕ, _%_, _<_};
 ghost use lib.ListN.{getD, length};
-ghost use Rattle.soft_step.specs.Step.{rowsAt};
+ghost use Rattle.soft.specs.Step.{rowsAt};
 
 fn low_bytes(row: [u16; 32]) -> [u8; 32]
     ensures { λ r. ⌜ ((s : ℕ) → s < 32 → getD r s 0 ≡ getD row s 0 % 256) ⌝ }

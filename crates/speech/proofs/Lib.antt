@@ -1,4 +1,10 @@
 -- The laws.
+-- The laws.
+-- The laws.
+-- The laws.
 pub mod Statuses
 pub mod Answering
 pub mod Settling
+pub mod Running
+pub mod InputBits
+pub mod Turning

@@ -9,9 +9,9 @@ use Rattle.bits.specs.Bits.{bits, bytes}
 use Rattle.bits.specs.Numbers.{packed}
 use Rattle.bits.proofs.Binary.{bits-bytes}
 use Rattle.bits.proofs.Packed.{packed-below, packed-unpacked-below}
-use Rattle.coding.specs.Checksums.{checkBits, checksum7Of, speech}
-use Rattle.coding.proofs.Division.{checkBits-length}
-use Rattle.speech_inputs.specs.Inputs.{bitsAt, parityPlaces, significantPlaces, parityOf}
+use Rattle.checksums.specs.Checksums.{checkBits, checksum7Of, speech}
+use Rattle.checksums.proofs.Division.{checkBits-length}
+use Rattle.speech.specs.Inputs.{bitsAt, parityPlaces, significantPlaces, parityOf}
 use Rattle.bits.specs.Refusals.{Answer, accepted}
 use Rattle.speech.specs.Calls.{Told, statusOf}
 use Rattle.speech.specs.declared.CrcStatus.{CrcStatus}

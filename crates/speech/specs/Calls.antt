@@ -17,8 +17,8 @@ use Rattle.bits.specs.declared.Wrote.{Wrote}
 use Rattle.trellis.specs.Search.{Nearest, Ambiguous}
 use Rattle.trellis.specs.Words.{Terminated}
 use Rattle.viterbi.specs.Hard.{weight}
-use Rattle.speech_inputs.specs.Inputs.{bitsAt, parityPlaces, parityOf, classOneOf}
-use Rattle.speech_turns.specs.Turns.{classTwoOf, protectedOf}
+use Rattle.speech.specs.Inputs.{bitsAt, parityPlaces, parityOf, classOneOf}
+use Rattle.speech.specs.Turns.{classTwoOf, protectedOf}
 use Rattle.speech.specs.Frames.{frameOf}
 use Rattle.speech.specs.declared.CrcStatus.{CrcStatus}
 use Rattle.speech.specs.declared.CrcStatus.the-variants.{Valid, Failed}

@@ -3,8 +3,8 @@ use mathlib.Core.Bool.{Bool}
 use mathlib.Core.List.{List}
 use Rattle.coding.specs.Codes.{coded, dcch}
 use Rattle.coding.specs.Registers.{memoryHigh}
-use Rattle.speech_inputs.specs.Inputs.{inputsOf}
-use Rattle.speech_turns.specs.Turns.{placed}
+use Rattle.speech.specs.Inputs.{inputsOf}
+use Rattle.speech.specs.Turns.{placed}
 
 -- the inputs coded from state 0
 unfoldable pub frameOf : List Bool → List Bool → List Bool

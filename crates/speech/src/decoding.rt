@@ -2,17 +2,17 @@
 // Ported from 136-bts, speech.rs, and changed (see NOTICE).
 use crate::CrcStatus;
 use crate::Decoded;
+use crate::inputs::checksum;
+use crate::inputs::take_parity;
+use crate::runs::copy_run;
+use crate::turns::take_class_two;
+use crate::turns::take_protected;
 use bits::Lent;
 use bits::Refusal;
 use bits::exact;
 use bits::first;
 use bits::only_bits;
 use bits::pack;
-use runs::copy_run;
-use speech_inputs::checksum;
-use speech_inputs::take_parity;
-use speech_turns::take_class_two;
-use speech_turns::take_protected;
 use trellis::Outcome;
 ghost use mathlib.Core.Bool.{true};
 ghost use mathlib.Core.Path.{_≡_};

@@ -1,13 +1,13 @@
 // Encoding of a frame.
 // Ported from 136-bts, speech.rs, and changed (see NOTICE).
+use crate::inputs::fill_inputs;
+use crate::turns::merge;
 use bits::Lent;
 use bits::Wrote;
 use bits::exact;
 use bits::first;
 use bits::only_bits;
 use coding::dcch::convolutional_encode;
-use speech_inputs::fill_inputs;
-use speech_turns::merge;
 ghost use mathlib.Core.Bool.{true};
 ghost use mathlib.Core.Path.{_≡_};
 ghost use lib.ListN.{length};
@@ -16,7 +16,7 @@ ghost use Rattle.coding.specs.Codes.{coded, dcch};
 ghost use Rattle.coding.specs.Registers.{memoryHigh};
 ghost use Rattle.speech.specs.Calls.{Encoding, lentEncode};
 ghost use Rattle.speech.specs.Frames.{frameOf};
-ghost use Rattle.speech_inputs.specs.Inputs.{inputsOf};
+ghost use Rattle.speech.specs.Inputs.{inputsOf};
 
 fn lent_encode(class_one: &[u8], class_two: &[u8], room: usize) -> Lent
     ensures { λ r. ⌜ r ≡ lentEncode (now («class_one» .entry)) (now («class_two» .entry)) room ⌝ }

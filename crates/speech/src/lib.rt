@@ -2,6 +2,9 @@
 // Ported from 136-bts, speech.rs, and changed (see NOTICE).
 mod decoding;
 mod encoding;
+pub mod inputs;
+pub mod runs;
+pub mod turns;
 
 use bits::Refusal;
 pub use decoding::decode_candidate;

@@ -11,7 +11,7 @@ use Rattle.bits.specs.declared.Lent.the-variants.{Fine, Refused}
 use Rattle.bits.specs.declared.Refusal.the-variants as refusal
 use Rattle.trellis.specs.Search.{Ambiguous}
 use Rattle.trellis.specs.Words.{Terminated}
-use Rattle.nearest.proofs.OneOutcome.{bytes-same-or-not, is-ambiguous, one-nearest, one-outcome}
+use Rattle.trellis.proofs.OneOutcome.{bytes-same-or-not, is-ambiguous, one-nearest, one-outcome}
 use Rattle.acelp_cc1.specs.Frames.{classOneOf, unordered}
 use Rattle.acelp_cc1.specs.Calls.{Told, Settled, Decoding, lentDecode, frameWeight, sound}
 

@@ -11,8 +11,8 @@ use Rattle.bits.specs.declared.Lent.the-variants.{Fine, Refused}
 use Rattle.bits.specs.declared.Refusal.the-variants as refusal
 use Rattle.trellis.specs.Search.{Ambiguous}
 use Rattle.trellis.specs.Words.{Terminated}
-use Rattle.nearest.proofs.OneOutcome.{bytes-same-or-not, is-ambiguous, one-nearest, one-outcome}
-use Rattle.speech_inputs.specs.Inputs.{classOneOf}
+use Rattle.trellis.proofs.OneOutcome.{bytes-same-or-not, is-ambiguous, one-nearest, one-outcome}
+use Rattle.speech.specs.Inputs.{classOneOf}
 use Rattle.speech.specs.Calls.{Told, Settled, Decoding, lentDecode, frameWeight, statusOf}
 
 -- an answer, and the bits of both classes

@@ -4,9 +4,9 @@ use mathlib.Core.Bool.{Bool, false}
 use mathlib.Core.List.{List, [], reverse}
 use lib.ListN.{length, take, replicate}
 use Rattle.bits.specs.Places.{listed, placeIn}
-use Rattle.speech_inputs.specs.Inputs.{bitsAt, parityPlaces, significantPlaces, inputsWith, classOneOf}
-use Rattle.speech_turns.specs.Turns.{isClassTwo, passing, placed, takenFrom, classTwoOf, protectedOf}
-use Rattle.speech_inputs.proofs.InputBits.{by-places}
+use Rattle.speech.specs.Inputs.{bitsAt, parityPlaces, significantPlaces, inputsWith, classOneOf}
+use Rattle.speech.specs.Turns.{isClassTwo, passing, placed, takenFrom, classTwoOf, protectedOf}
+use Rattle.speech.proofs.InputBits.{by-places}
 
 -- ---- the inputs, whatever the checksum bits are
 module _ (one parity : List Bool) where

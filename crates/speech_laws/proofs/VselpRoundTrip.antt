@@ -17,7 +17,7 @@ use Rattle.bits.proofs.Listed.{length-listed}
 use Rattle.bits.proofs.Packed.{unpacked-length}
 use Rattle.bits.proofs.Refusing.{exact-fine, binary-fine}
 use Rattle.bits.proofs.Tally.{disagreements-self, disagreements-none}
-use Rattle.coding.specs.Checksums.{checksum7Of}
+use Rattle.checksums.specs.Checksums.{checksum7Of}
 use Rattle.coding.specs.Codes.{coded, dcch}
 use Rattle.coding.specs.Registers.{memoryHigh}
 use Rattle.coding.proofs.Coded.{coded-length}
@@ -25,14 +25,14 @@ use Rattle.coding.proofs.Unique.{same-start}
 use Rattle.trellis.specs.Search.{Nearest, Ambiguous}
 use Rattle.trellis.specs.Words.{Terminated}
 use Rattle.viterbi.specs.Hard.{weight, weightFrom}
-use Rattle.speech_inputs.specs.Inputs.{bitsAt, parityPlaces, parityOf, inputsWith, inputsOf, classOneOf}
-use Rattle.speech_turns.specs.Turns.{placed, protectedOf, isClassTwo}
+use Rattle.speech.specs.Inputs.{bitsAt, parityPlaces, parityOf, inputsWith, inputsOf, classOneOf}
+use Rattle.speech.specs.Turns.{placed, protectedOf, isClassTwo}
 use Rattle.speech.specs.Frames.{frameOf}
 use Rattle.speech.specs.Calls.{Told, Settled, Decoding, Encoding, lentEncode, lentDecode, frameWeight, statusOf}
 use Rattle.speech.specs.declared.CrcStatus.{CrcStatus}
 use Rattle.speech.specs.declared.CrcStatus.the-variants.{Valid}
 use Rattle.speech.proofs.Answering.{encode-fine}
-use Rattle.speech_inputs.proofs.InputBits.{inputs-length}
+use Rattle.speech.proofs.InputBits.{inputs-length}
 use Rattle.speech_laws.proofs.VselpPlaces.{inputs-end, inputs-one, inputs-parity, inputs-significant, placed-two, placed-protected}
 use Rattle.speech.proofs.Settling.{map-taken}
 use Rattle.speech.proofs.Statuses.{status-by}

@@ -3,11 +3,11 @@ use mathlib.Core.Path.{refl}
 use lib.Dec.{lit<}
 use Rattle.bits.specs.Numbers.{packed, unpacked}
 use Rattle.coding.specs.Codes.{tapped}
-use Rattle.coding.specs.Checksums.{added, divided, checksumOf}
+use Rattle.checksums.specs.Checksums.{added, divided, checksumOf}
 use Rattle.acelp_cc1.specs.Frames.{informationPlace}
-use Rattle.dcch_wire.specs.Wire.{across, everySecond, wireOrder, cellAt}
-use Rattle.facch_slots.specs.Wire.{table, placeOf}
-use Rattle.speech_turns.specs.Turns.{isClassTwo}
+use Rattle.dcch_interleaver.specs.Wire.{across, everySecond, wireOrder, cellAt}
+use Rattle.facch_interleaver.specs.Wire.{table, placeOf}
+use Rattle.speech.specs.Turns.{isClassTwo}
 use Rattle.table_m.specs.TableM.{TableM}
 
 pub table-m : TableM

@@ -4,13 +4,13 @@ use mathlib.Core.Bool.{true, false}
 use mathlib.Core.List.{[], _∷_}
 use Rattle.coding.specs.Codes.{dcch, facch, acelp}
 use Rattle.coding.specs.Registers.{memoryHigh, memoryLow, Stepped}
-use Rattle.coding.specs.Checksums.{checksumOf}
-use Rattle.coding.specs.declared.checksum.CrcMode.the-variants.{Broadcast, Addressed}
+use Rattle.checksums.specs.Checksums.{checksumOf}
+use Rattle.checksums.specs.declared.CrcMode.the-variants.{Broadcast, Addressed}
 use Rattle.acelp_cc1.specs.Frames.{informationPlace}
-use Rattle.dcch_wire.specs.declared.BlockFormat.the-variants.{Forward}
-use Rattle.dcch_wire.specs.Wire.{cellAt}
-use Rattle.facch_slots.specs.Wire.{placeOf}
-use Rattle.speech_turns.specs.Turns.{isClassTwo}
+use Rattle.dcch_interleaver.specs.declared.BlockFormat.the-variants.{Forward}
+use Rattle.dcch_interleaver.specs.Wire.{cellAt}
+use Rattle.facch_interleaver.specs.Wire.{placeOf}
+use Rattle.speech.specs.Turns.{isClassTwo}
 
 pub record TableM : Type 0 where
   -- a step: state, input, next state, outputs

@@ -8,21 +8,21 @@ use lib.ListN.{length, getD, drop}
 use Rattle.bits.specs.Bits.{tally}
 use Rattle.bits.proofs.Tally.{drop-two}
 use Rattle.coding.specs.Codes.{coded, facch}
-use Rattle.survivors.specs.Engine.{branchBy, Rows}
+use Rattle.search.specs.Forward.{branchBy, Rows}
 use Rattle.trellis.specs.Numbering.{newestLow}
-use Rattle.places.specs.Places.{outputAt}
+use Rattle.search.specs.Row.{outputAt}
 use Rattle.trellis.specs.Search.{Found}
 use Rattle.trellis.specs.Words.{OfLength}
 use Rattle.trellis.specs.declared.Outcome.{Outcome}
-use Rattle.places.proofs.ByPlace.{RowAt, metric-coded, outputsAt}
+use Rattle.search.proofs.ByPlace.{RowAt, metric-coded, outputsAt}
 use Rattle.trellis.proofs.PathWord.{last-five}
 use Rattle.trellis.proofs.Registers.{register-low}
 use Rattle.trellis.proofs.Searching.{found-to}
 use Rattle.tailbiting.specs.Rows.{costAt, RowsTo, NumbersTo}
-use Rattle.tail_search.specs.Starts.{endOf, tailMetric}
+use Rattle.tailbiting.specs.Starts.{endOf, tailMetric}
 use Rattle.tailbiting.specs.TailBiting.{erasedDiffer, tailWeight}
 use Rattle.tailbiting.proofs.Erasable.{erased-le}
-use Rattle.tail_search.proofs.Turns.{end-below, leads-end}
+use Rattle.tailbiting.proofs.Turns.{end-below, leads-end}
 
 -- ---- one place
 cost-le : (slot a b c d : ℕ) → costAt slot a b c d ≤ 4

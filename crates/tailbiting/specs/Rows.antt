@@ -3,7 +3,7 @@ use mathlib.Core.Path.{_≡_}
 use mathlib.Core.List.{List, []}
 use Prim.Native.Nat.{ℕ, _+_, _*_, _<_}
 use lib.ListN.{getD}
-use Rattle.places.specs.Places.{outputAt}
+use Rattle.search.specs.Row.{outputAt}
 use Rattle.tailbiting.specs.TailBiting.{erasedDiffer}
 
 -- the branch metric of a place against four received bytes

@@ -1,8 +1,9 @@
 // Ported from 136-bts, facch.rs, and changed (see NOTICE).
 // The tail-biting search of the FACCH code, with unobserved bits: specs/TailBiting.antt says what it finds.
 mod rows;
+pub mod starts;
 
-use tail_search::search;
+use crate::starts::search;
 use trellis::Outcome;
 ghost use mathlib.Core.Bool.{true};
 ghost use mathlib.Core.Path.{_≡_};

@@ -1,13 +1,13 @@
 // Ported from 136-bts, facch.rs, and changed (see NOTICE).
 // The branch metrics of the FACCH code against received bits, some of them unobserved.
 use bits::differs;
-use places::outputs;
+use search::row::outputs;
 ghost use mathlib.Core.Bool.{true};
 ghost use mathlib.Core.Path.{_≡_};
 ghost use Prim.Native.Nat.{_*_, _<_, _≤_};
 ghost use lib.ListN.{length};
 ghost use Rattle.bits.specs.Bits.{bit};
-ghost use Rattle.places.specs.Places.{OutputsTo};
+ghost use Rattle.search.specs.Row.{OutputsTo};
 ghost use Rattle.tailbiting.specs.Rows.{CostsTo, NumbersTo, RowsTo};
 ghost use Rattle.tailbiting.specs.TailBiting.{allErasable, erasedDiffer};
 

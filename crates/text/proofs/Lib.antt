@@ -1,3 +1,6 @@
 -- The laws of characters and shapes.
+-- The laws.
 pub mod Reading
 pub mod Parts
+pub mod Stored
+pub mod Digits

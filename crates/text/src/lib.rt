@@ -1,4 +1,6 @@
 // Characters of a line: digits, bits, shapes, and where a line ends.
+pub mod numerals;
+
 use bits::wide;
 ghost use mathlib.Core.Path.{_≡_};
 ghost use mathlib.Core.Bool.{true};

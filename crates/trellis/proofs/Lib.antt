@@ -1,4 +1,5 @@
 -- The laws.
+-- The laws.
 pub mod Registers
 pub mod Optimal
 pub mod Order
@@ -10,3 +11,7 @@ pub mod FreeStart
 pub mod Renumber
 pub mod Embed
 pub mod Doubles
+pub mod AllWords
+pub mod Lightest
+pub mod Members
+pub mod OneOutcome

@@ -10,11 +10,11 @@ use Rattle.bits.proofs.Binary.{differ-le, binary-at}
 use Rattle.bits.proofs.Tally.{drop-two}
 use Rattle.coding.specs.Codes.{dcch}
 use Rattle.coding.specs.Registers.{memoryLow}
-use Rattle.survivors.specs.Engine.{branchBy, Rows}
+use Rattle.search.specs.Forward.{branchBy, Rows}
 use Rattle.trellis.specs.Numbering.{newestLow}
-use Rattle.places.specs.Places.{outputAt}
+use Rattle.search.specs.Row.{outputAt}
 use Rattle.trellis.specs.Words.{wordMetric}
-use Rattle.places.proofs.ByPlace.{RowAt, metric-coded, outputsAt}
+use Rattle.search.proofs.ByPlace.{RowAt, metric-coded, outputsAt}
 use Rattle.viterbi.specs.Hard.{weightFrom}
 use Rattle.viterbi.specs.Rows.{distanceAt, PairsTo, pairOf, SymbolsTo}
 

@@ -11,7 +11,7 @@ use Rattle.bits.proofs.LentPart.{became, became-length}
 use Rattle.trellis.specs.Search.{Found, FoundFirst}
 use Rattle.trellis.specs.Numbering.{newestLow}
 use Rattle.trellis.specs.Words.{Leads, OfLength, Terminated, wordMetric, freeMetric}
-use Rattle.survivors.specs.Engine.{Rows, branchBy}
+use Rattle.search.specs.Forward.{Rows, branchBy}
 use Rattle.trellis.specs.declared.Outcome.{Outcome}
 use Rattle.trellis.proofs.Registers.{register-low}
 use Rattle.trellis.proofs.PathWord.{leads-terminated, terminated-leads}

@@ -5,7 +5,7 @@ use mathlib.Core.List.{List, []}
 use Prim.Native.Nat.{ℕ, _+_, _*_, _/_, _%_, _<_}
 use lib.ListN.{getD}
 use Rattle.bits.specs.Bits.{bit, differ}
-use Rattle.places.specs.Places.{outputAt}
+use Rattle.search.specs.Row.{outputAt}
 
 -- the disagreements of a place's two output bits with a received pair
 abbrev pub distanceAt : ℕ → Bool → Bool → ℕ

@@ -1,14 +1,14 @@
 // Hard-decision searches of the code of DCCH, SACCH and VSELP: specs/Hard.antt says what they find.
 // Ported from 136-bts (see NOTICE): `viterbi` of dcch.rs and the searches of sacch.rs and speech.rs, as one.
 use bits::differs;
-use places::outputs;
+use search::row::outputs;
 use trellis::Outcome;
 ghost use mathlib.Core.Bool.{true};
 ghost use mathlib.Core.Path.{_≡_};
 ghost use Prim.Native.Nat.{_*_, _<_, _≤_};
 ghost use lib.ListN.{length};
 ghost use Rattle.bits.specs.Bits.{allBinary, bit, bits};
-ghost use Rattle.places.specs.Places.{OutputsTo};
+ghost use Rattle.search.specs.Row.{OutputsTo};
 ghost use Rattle.trellis.specs.Search.{Found, FoundFirst};
 ghost use Rattle.trellis.specs.Words.{OfLength, Terminated};
 ghost use Rattle.viterbi.specs.Hard.{freeWeight, weight};
@@ -66,7 +66,7 @@ pub fn terminated(coded: &[u8], word: &mut [u8]) -> Outcome
     let mut symbols = [0u8; 130];
     let steps = word.len();
     fill_symbols(coded, &mut symbols[..steps]);
-    searches::nearest_between(&rows, &symbols[..steps], 0, 0, word)
+    search::nearest_between(&rows, &symbols[..steps], 0, 0, word)
 }
 
 // Writes a nearest word over all 32 starting memories. The metric is its fewest disagreements over them.
@@ -78,5 +78,5 @@ pub fn free(coded: &[u8], word: &mut [u8]) -> Outcome
     let mut symbols = [0u8; 130];
     let steps = word.len();
     fill_symbols(coded, &mut symbols[..steps]);
-    searches::nearest_free(&rows, &symbols[..steps], word)
+    search::nearest_free(&rows, &symbols[..steps], word)
 }

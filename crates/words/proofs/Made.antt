@@ -12,9 +12,9 @@ use Rattle.bits.specs.Bits.{bit, byte, bits, bytes, allBinary}
 use Rattle.bits.specs.Numbers.{packed, unpacked}
 use Rattle.bits.proofs.Binary.{bits-bytes, binary-bytes}
 use Rattle.bits.proofs.Packed.{packed-unpacked-below, unpacked-length}
-use Rattle.coding.specs.Checksums.{checksumOf}
-use Rattle.coding.specs.declared.checksum.CrcMode.the-variants.{Addressed}
-use Rattle.coding.proofs.Answers.{checksum-below}
+use Rattle.checksums.specs.Checksums.{checksumOf}
+use Rattle.checksums.specs.declared.CrcMode.the-variants.{Addressed}
+use Rattle.checksums.proofs.Answers.{checksum-below}
 use Rattle.words.specs.Words.{informationOf, madeOf, sound, messageIn}
 
 -- ---- a flag as the first byte of a header

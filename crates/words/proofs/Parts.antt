@@ -9,8 +9,8 @@ use lib.ListN.{length, getD, take, drop, length-take, List·getD-map}
 use Rattle.bits.specs.Bits.{bit, bits, allBinary}
 use Rattle.bits.specs.Numbers.{packed}
 use Rattle.bits.proofs.Binary.{bits-take, bits-drop, binary-head, binary-tail, binary-take, binary-drop}
-use Rattle.coding.specs.Checksums.{checksumOf}
-use Rattle.coding.specs.declared.checksum.CrcMode.the-variants.{Addressed}
+use Rattle.checksums.specs.Checksums.{checksumOf}
+use Rattle.checksums.specs.declared.CrcMode.the-variants.{Addressed}
 use Rattle.words.specs.Words.{sound, messageIn}
 
 -- the n bytes from a place on, as bits

@@ -11,8 +11,8 @@ use Rattle.bits.specs.Bits.{bit, byte, bits, bytes, allBinary}
 use Rattle.bits.specs.Numbers.{unpacked}
 use Rattle.bits.proofs.Binary.{bits-bytes, bytes-bits, bytes-append, binary-bytes}
 use Rattle.bits.proofs.Packed.{unpacked-length}
-use Rattle.coding.specs.Checksums.{checksumOf}
-use Rattle.coding.specs.declared.checksum.CrcMode.the-variants.{Addressed}
+use Rattle.checksums.specs.Checksums.{checksumOf}
+use Rattle.checksums.specs.declared.CrcMode.the-variants.{Addressed}
 use Rattle.words.specs.Words.{informationOf, madeOf}
 
 -- the message in the places from h to h + 47

@@ -6,8 +6,8 @@ use Prim.Native.Nat.{ℕ}
 use lib.Dec.{eqb}
 use lib.ListN.{take, drop}
 use Rattle.bits.specs.Numbers.{packed, unpacked}
-use Rattle.coding.specs.Checksums.{checksumOf}
-use Rattle.coding.specs.declared.checksum.CrcMode.the-variants.{Addressed}
+use Rattle.checksums.specs.Checksums.{checksumOf}
+use Rattle.checksums.specs.declared.CrcMode.the-variants.{Addressed}
 
 -- the header and the message, the highest bit first
 abbrev pub informationOf : List Bool → ℕ → List Bool

@@ -2,8 +2,8 @@
 // Ported from 136-bts, facch.rs and sacch.rs, and changed (see NOTICE).
 use bits::pack;
 use bits::unpack;
-use coding::checksum::CrcMode;
-use coding::checksum::checksum_of_bits;
+use checksums::CrcMode;
+use checksums::checksum_of_bits;
 ghost use mathlib.Core.Bool.{true};
 ghost use mathlib.Core.Path.{_≡_};
 ghost use Prim.Native.Nat.{_+_, _≤_};

@@ -1,7 +1,7 @@
 -- `flat_coding::checksum16` meets its contract. Assumes nothing.
 use mathlib.Core.Path.{ap, _∙_}
 use Rattle.bits.specs.Bits.{bits}
-use Rattle.coding.specs.Checksums.{checksumOf, ofBits}
+use Rattle.checksums.specs.Checksums.{checksumOf, ofBits}
 use Rattle.flat_coding.specs.Flat.{flatChecksum}
 use borrow.Author.Needs.{needs}
 use Rattle.flat_coding.proofs.checksum16.Statement.{statement}

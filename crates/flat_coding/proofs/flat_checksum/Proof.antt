@@ -1,7 +1,7 @@
 -- `flat_coding::flat_checksum` meets its contract, by the cases of the answer. Assumes nothing.
 use mathlib.Core.Path.{sym, ap, _∙_}
 use Prim.Native.Nat.{ℕ}
-use Rattle.coding.specs.Checksums.{answerOf}
+use Rattle.checksums.specs.Checksums.{answerOf}
 use Rattle.flat_coding.specs.Flat.{flatChecksum}
 use borrow.Author.Needs.{needs}
 use Rattle.flat_coding.proofs.flat_checksum.Statement.{statement}

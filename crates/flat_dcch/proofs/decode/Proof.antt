@@ -1,6 +1,6 @@
 -- `flat_dcch::decode` meets its contract: what `dcch::decode` answers, made flat. Assumes nothing.
 use Rattle.flat_dcch.proofs.Carried.{decoded-flat}
-use Rattle.dcch_block.specs.Blocks.{Decoding}
+use Rattle.dcch.specs.Blocks.{Decoding}
 use borrow.Author.Needs.{needs}
 use Rattle.flat_dcch.proofs.decode.Statement.{statement}
 use Rattle.flat_dcch.proofs.decode.Tie as tie

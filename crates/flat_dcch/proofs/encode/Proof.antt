@@ -1,6 +1,6 @@
 -- `flat_dcch::encode` meets its contract: what `dcch::encode` answers, made flat. Assumes nothing.
 use Rattle.flat_dcch.proofs.Carried.{encoded-flat}
-use Rattle.dcch_block.specs.Blocks.{Encoding}
+use Rattle.dcch.specs.Blocks.{Encoding}
 use borrow.Author.Needs.{needs}
 use Rattle.flat_dcch.proofs.encode.Statement.{statement}
 use Rattle.flat_dcch.proofs.encode.Tie as tie

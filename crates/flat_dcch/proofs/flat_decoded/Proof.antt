@@ -1,7 +1,7 @@
 -- `flat_dcch::flat_decoded` meets its contract, by the cases of the answer. Assumes nothing.
 use mathlib.Core.Path.{sym, ap, _∙_}
 use Rattle.flat_dcch.proofs.Carried.{refused-block}
-use Rattle.dcch_block.specs.Blocks.{decodeAnswer}
+use Rattle.dcch.specs.Blocks.{decodeAnswer}
 use Rattle.flat_dcch.specs.Blocks.{flatCorrected}
 use borrow.Author.Needs.{needs}
 use Rattle.flat_dcch.proofs.flat_decoded.Statement.{statement}

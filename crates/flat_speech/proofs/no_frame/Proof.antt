@@ -4,9 +4,9 @@ use borrow.Author.Needs.{needs}
 use borrow.Author.Needs.{needs}
 use Rattle.flat_speech.proofs.no_frame.Statement.{statement}
 use Rattle.flat_speech.proofs.no_frame.Tie as tie
-use Rattle.refusals.proofs.actual.Reads as actual-reads
-use Rattle.refusals.proofs.expected.Reads as expected-reads
-use Rattle.refusals.proofs.number.Reads as number-reads
+use Rattle.bits.proofs.refusals.actual.Reads as actual-reads
+use Rattle.bits.proofs.refusals.expected.Reads as expected-reads
+use Rattle.bits.proofs.refusals.number.Reads as number-reads
 
 number-requires : tie.Need-number-requires
 number-requires c κs = search needs

@@ -7,7 +7,7 @@ use lib.ListN.{length}
 use Rattle.bits.specs.Bits.{bits}
 use Rattle.bits.specs.Refusals.{accepted}
 use Rattle.bits.proofs.LentPart.{part-length, whole-length}
-use Rattle.coding.specs.Checksums.{checksumOf, ofBits}
+use Rattle.checksums.specs.Checksums.{checksumOf, ofBits}
 use Rattle.text.proofs.Parts.{part-is}
 use borrow.Author.Needs.{needs}
 use Rattle.replay_coding.proofs.has_checksum.Statement.{statement}

@@ -2,7 +2,7 @@
 use mathlib.Core.Path.{ap, _∙_}
 use borrow.Author.Tests.{eqb-true}
 use Rattle.bits.specs.Refusals.{accepted}
-use Rattle.coding.specs.Checksums.{answerOf}
+use Rattle.checksums.specs.Checksums.{answerOf}
 use Rattle.text.proofs.Parts.{never}
 use borrow.Author.Needs.{needs}
 use Rattle.replay_coding.proofs.is_value.Statement.{statement}

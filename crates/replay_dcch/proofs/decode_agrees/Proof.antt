@@ -4,7 +4,7 @@ use Prim.Native.Nat.{ℕ}
 use native.Mathlib.Omega.{arith}
 use lib.ListN.{length}
 use Rattle.bits.proofs.LentPart.{part-length, whole-length}
-use Rattle.dcch_block.specs.Blocks.{Decoding}
+use Rattle.dcch.specs.Blocks.{Decoding}
 use Rattle.text.specs.Lines.{bitsIn}
 use Rattle.replay_dcch.specs.Blocks.{Answers, crcOr}
 use Rattle.text.proofs.Parts.{part-is}

@@ -5,7 +5,7 @@ use denote.Ref.{now}
 use Rattle.text.proofs.Parts.{never}
 use Rattle.replay_dcch.proofs.BlockLines.{alike}
 use borrow.Author.Needs.{needs}
-use Rattle.dcch_block.specs.Blocks.{Decoding}
+use Rattle.dcch.specs.Blocks.{Decoding}
 use Rattle.replay_dcch.proofs.decodes.Statement.{statement}
 use Rattle.replay_dcch.proofs.decodes.Tie as tie
 

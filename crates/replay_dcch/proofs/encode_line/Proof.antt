@@ -6,9 +6,9 @@ use native.Mathlib.Omega.{arith}
 use denote.Ref.{now}
 use lib.ListN.{length}
 use borrow.Author.Tests.{not-false}
-use Rattle.coding.specs.declared.checksum.CrcMode.{CrcMode}
-use Rattle.dcch_wire.specs.Formats.{encodedBits, informationBits}
-use Rattle.dcch_wire.specs.declared.BlockFormat.{BlockFormat}
+use Rattle.checksums.specs.declared.CrcMode.{CrcMode}
+use Rattle.dcch_interleaver.specs.Formats.{encodedBits, informationBits}
+use Rattle.dcch_interleaver.specs.declared.BlockFormat.{BlockFormat}
 use Rattle.text.specs.Lines.{bitsIn}
 use Rattle.replay_dcch.specs.Blocks.{BlockLine, Encodes, formatIn}
 use Rattle.text.proofs.Parts.{never}

@@ -1,7 +1,7 @@
 -- `replay_dcch::encodes` meets its contract: the answer and the block were compared. Assumes nothing.
 use borrow.Author.Tests.{not-false}
 use denote.Ref.{now}
-use Rattle.dcch_block.specs.Blocks.{Encoding}
+use Rattle.dcch.specs.Blocks.{Encoding}
 use Rattle.text.proofs.Parts.{never}
 use Rattle.replay_dcch.proofs.BlockLines.{alike}
 use borrow.Author.Needs.{needs}

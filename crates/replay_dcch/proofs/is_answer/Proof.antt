@@ -2,7 +2,7 @@
 use mathlib.Core.Path.{ap, _∙_}
 use borrow.Author.Tests.{eqb-true}
 use Rattle.bits.specs.Refusals.{accepted, refused}
-use Rattle.dcch_block.specs.Blocks.{decodeAnswer}
+use Rattle.dcch.specs.Blocks.{decodeAnswer}
 use Rattle.text.proofs.Parts.{never}
 use borrow.Author.Needs.{needs}
 use Rattle.replay_dcch.proofs.is_answer.Statement.{statement}

@@ -1,7 +1,7 @@
 -- `replay_dcch::is_block_line` meets its contract: the letter, the shape and the parts were tested. Assumes nothing.
 use mathlib.Core.Path.{subst}
 use denote.Ref.{now}
-use Rattle.dcch_wire.specs.declared.BlockFormat.{BlockFormat}
+use Rattle.dcch_interleaver.specs.declared.BlockFormat.{BlockFormat}
 use Rattle.replay_dcch.specs.Blocks.{Parts}
 use Rattle.text.proofs.Parts.{never, passed}
 use borrow.Author.Needs.{needs}

@@ -2,7 +2,7 @@
 use mathlib.Core.Path.{ap}
 use Prim.Native.Nat.{_-_}
 use Rattle.session.specs.Output.{fresh}
-use Rattle.totals.specs.Totals.{noWord}
+use Rattle.session.specs.Totals.{noWord}
 use Rattle.session.specs.Contracts.{begun}
 use Rattle.sacch_receiver.specs.declared.SacchReceiver.{SacchReceiver}
 use borrow.Author.Needs.{needs}

@@ -1,6 +1,6 @@
 -- `traceback` meets its contract: the bits of the steps passed, read from the end. Assumes nothing.
 use native.Mathlib.Omega.{arith}
-use Rattle.soft_step.specs.Step.{rowsAt}
+use Rattle.soft.specs.Step.{rowsAt}
 use Rattle.soft.proofs.Tracing.{Tracing, tracing-none, tracing-more, tracing-done}
 use borrow.Author.Needs.{needs}
 use Rattle.soft.proofs.traceback.Statement.{statement}

@@ -6,7 +6,7 @@ use native.Mathlib.Omega.{arith}
 use denote.Ref.{now}
 use lib.ListN.{length}
 use lib.Ieee.{Float}
-use Rattle.soft_step.specs.Step.{rowsAt, Decided}
+use Rattle.soft.specs.Step.{rowsAt, Decided}
 use Rattle.soft.specs.Soft.{softWord}
 use Rattle.soft.proofs.Tracing.{decided-traced, decided-below}
 use Rattle.soft.proofs.RustOrder.{rust-same}

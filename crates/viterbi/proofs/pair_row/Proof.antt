@@ -5,7 +5,7 @@ use native.Mathlib.Omega.{arith}
 use Rattle.bits.proofs.Filled.{Filling, filling-none, filling-more, filling-done}
 use Rattle.bits.specs.Bits.{bit, differ}
 use Rattle.viterbi.specs.Rows.{distanceAt}
-use Rattle.places.proofs.ByPlace.{output-below, place-cost}
+use Rattle.search.proofs.ByPlace.{output-below, place-cost}
 use Rattle.viterbi.proofs.pair_row.Statement.{statement}
 use Rattle.viterbi.proofs.pair_row.Tie as tie
 

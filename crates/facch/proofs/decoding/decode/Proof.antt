@@ -1,5 +1,5 @@
 -- `facch::decoding::decode` meets its contract: a refusal, or an answer. Assumes nothing.
-use Rattle.facch_received.proofs.Received.{decode-fine}
+use Rattle.facch.proofs.Receiving.{decode-fine}
 use Rattle.facch.proofs.Settling.{declined-end, answered-end}
 use borrow.Author.Needs.{needs}
 use Rattle.facch.proofs.decoding.decode.Statement.{statement}

@@ -1,5 +1,5 @@
 -- `facch::decoding::decode_erased` meets its contract: a refusal, or an answer. Assumes nothing.
-use Rattle.facch_received.proofs.Received.{erased-fine}
+use Rattle.facch.proofs.Receiving.{erased-fine}
 use Rattle.facch.proofs.Settling.{declined-end, answered-end}
 use borrow.Author.Needs.{needs}
 use Rattle.facch.proofs.decoding.decode_erased.Statement.{statement}

@@ -8,7 +8,7 @@ use borrow.Author.Needs.{needs}
 use borrow.Author.Needs.{needs}
 use Rattle.flat_sacch.proofs.receiver.flat_outcome.Statement.{statement}
 use Rattle.flat_sacch.proofs.receiver.flat_outcome.Tie as tie
-use Rattle.refusals.proofs.number.Reads as number-reads
+use Rattle.bits.proofs.refusals.number.Reads as number-reads
 use Rattle.flat_sacch.proofs.receiver.nothing.Reads as nothing-reads
 
 enum-told : tie.Need-enum-told

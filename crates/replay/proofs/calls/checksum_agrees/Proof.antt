@@ -4,7 +4,7 @@ use mathlib.Core.List.{List}
 use Prim.Native.Nat.{ℕ, _+_, _*_}
 use native.Mathlib.Omega.{arith}
 use Rattle.bits.proofs.LentPart.{part-length}
-use Rattle.coding.specs.declared.checksum.CrcMode.the-variants.{Broadcast, Addressed}
+use Rattle.checksums.specs.declared.CrcMode.the-variants.{Broadcast, Addressed}
 use Rattle.replay.specs.Calls.{addressed-line, broadcast-line}
 use Rattle.replay_coding.specs.Calls.{ChecksumIs}
 use Rattle.text.proofs.Parts.{never, of-rest}

@@ -5,7 +5,7 @@ use native.Mathlib.Omega.{arith}
 use lib.ListN.{take, drop, length-replicate}
 use borrow.Rule.Slice.PartMut.{mid-len}
 use Rattle.bits.proofs.Filled.{Filling, filling-none, filling-more, filling-done}
-use Rattle.diagonal.specs.Diagonal.{fieldOf}
+use Rattle.sacch_interleaver.specs.Diagonal.{fieldOf}
 use borrow.Author.Needs.{needs}
 use Rattle.sacch_encoder.proofs.word.fields_of.Statement.{statement}
 use Rattle.sacch_encoder.proofs.word.fields_of.Tie as tie

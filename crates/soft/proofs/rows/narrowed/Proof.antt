@@ -5,7 +5,7 @@ use Prim.Native.Nat.{ℕ, _-_, _%_, _<_}
 use native.Mathlib.Omega.{arith}
 use lib.ListN.{getD}
 use Rattle.bits.proofs.Filled.{Filling, filling-none, filling-more, filling-done}
-use Rattle.soft_step.specs.Step.{rowsAt}
+use Rattle.soft.specs.Step.{rowsAt}
 use borrow.Author.Needs.{needs}
 use Rattle.soft.proofs.rows.narrowed.Statement.{statement}
 use Rattle.soft.proofs.rows.narrowed.Tie as tie

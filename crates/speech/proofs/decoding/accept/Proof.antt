@@ -1,8 +1,8 @@
 -- `speech::decoding::accept` meets its contract: the checksum decides the status. Assumes nothing.
 use native.Mathlib.Omega.{arith}
 use Rattle.bits.specs.Bits.{bits}
-use Rattle.speech_inputs.specs.Inputs.{parityPlaces}
-use Rattle.speech_inputs.proofs.InputBits.{gathered-binary}
+use Rattle.speech.specs.Inputs.{parityPlaces}
+use Rattle.speech.proofs.InputBits.{gathered-binary}
 use Rattle.speech.proofs.Statuses.{failed, valid, told-as}
 use borrow.Author.Needs.{needs}
 use Rattle.speech.proofs.decoding.accept.Statement.{statement}

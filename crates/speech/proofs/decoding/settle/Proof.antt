@@ -3,7 +3,7 @@ use mathlib.Core.Path.{refl}
 use native.Mathlib.Omega.{arith}
 use lib.ListN.{length}
 use Rattle.speech.proofs.Answering.{decode-fine}
-use Rattle.speech_inputs.proofs.InputBits.{copied-out}
+use Rattle.speech.proofs.InputBits.{copied-out}
 use Rattle.speech.proofs.Settling.{inputs-binary, unclear-end, settled-end}
 use borrow.Author.Needs.{needs}
 use Rattle.speech.proofs.decoding.settle.Statement.{statement}

@@ -6,8 +6,8 @@ use Rattle.bits.specs.Bits.{byte, bits, bytes, allBinary}
 use Rattle.bits.proofs.Binary.{bits-bytes, binary-bytes}
 use Rattle.coding.specs.Codes.{coded, dcch}
 use Rattle.coding.specs.Registers.{memoryHigh}
-use Rattle.speech_inputs.specs.Inputs.{inputsOf}
-use Rattle.speech_inputs.proofs.InputBits.{inputs-length}
+use Rattle.speech.specs.Inputs.{inputsOf}
+use Rattle.speech.proofs.InputBits.{inputs-length}
 use borrow.Author.Needs.{needs}
 use Rattle.speech.proofs.encoding.encode_class_one.Statement.{statement}
 use Rattle.speech.proofs.encoding.encode_class_one.Tie as tie

@@ -1,0 +1,57 @@
+-- `acelp_slots::interleave` meets its contract: a refusal, or the slot. Assumes nothing.
+use Rattle.bits.proofs.Writing.{declined-end, done-end}
+use Rattle.acelp_interleaver.proofs.Passing.{three-fine}
+use borrow.Author.Needs.{needs}
+use Rattle.acelp_interleaver.proofs.interleave.Statement.{statement}
+use Rattle.acelp_interleaver.proofs.interleave.Tie as tie
+
+lent-three-requires : tie.Need-lent-three-requires
+lent-three-requires c κs = search needs
+
+enum-known-ready : tie.Need-enum-known-ready
+enum-known-ready c = search needs
+
+returns : tie.Need-returns
+returns c = declined-end (c .before .before .before .lent-three .ensures) _ (c .before .ready .given .1)
+
+enum-told : tie.Need-enum-told
+enum-told c = search needs
+
+interleaver-requires : tie.Need-interleaver-requires
+interleaver-requires c κs = search needs
+
+slice-aggregate-gather : tie.Need-slice-aggregate-gather
+slice-aggregate-gather c = search needs
+
+gather-requires : tie.Need-gather-requires
+gather-requires c κs =
+    let places = c .before .before in
+    let told = places .before in
+    let lent = told .before .before in
+    let begin = lent .before .before .before in
+    let fine = three-fine (begin .args .history .now) _ (lent .lent-three .ensures) (told .enum-told .given .1) in
+    (places .interleaver .ensures, fine .0, fine .1)
+
+same-length : tie.Need-same-length
+same-length c = search needs
+
+returns-2 : tie.Need-returns-2
+returns-2 c =
+    let wrote = c .before .before in
+    let told = wrote .before .before .before .before in
+    let lent = told .before .before in
+    done-end (lent .lent-three .ensures) (told .enum-told .given .1) (wrote .gather .ensures)
+
+pub interleave-spec : {M : Type 1} → statement M
+interleave-spec =
+    tie.close
+    (tie.spec
+    lent-three-requires
+    enum-known-ready
+    returns
+    enum-told
+    interleaver-requires
+    slice-aggregate-gather
+    gather-requires
+    same-length
+    returns-2)

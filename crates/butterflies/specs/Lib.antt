@@ -1,2 +1,0 @@
--- One step of the search.
-pub mod Butterflies

@@ -1,2 +1,0 @@
--- Which of two candidates survives.
-pub mod Candidates

@@ -1,0 +1,5 @@
+-- The laws of division, of the register that divides and of the two checksums.
+pub mod Division
+pub mod Shifting
+pub mod Fours
+pub mod Answers

@@ -1,0 +1,63 @@
+-- Cyclic checksums: remainders of the division of polynomials over bits. A polynomial is its coefficients, the highest first.
+use mathlib.Core.Bool.{Bool, true, false, cond}
+use mathlib.Core.List.{List, [], _∷_, _++_}
+use Prim.Native.Nat.{ℕ, zero, suc, _-_}
+use lib.ListN.{length, replicate}
+use Rattle.bits.specs.Bits.{bits, allBinary, _⊕_}
+use Rattle.bits.specs.Numbers.{packed, unpacked}
+use Rattle.bits.specs.Refusals.{Answer, accepted, refused}
+use Rattle.bits.specs.declared.Refusal.the-variants.{Symbol}
+use Rattle.checksums.specs.declared.CrcMode.{CrcMode}
+use Rattle.checksums.specs.declared.CrcMode.the-variants.{Broadcast, Addressed}
+use Rattle.checksums.specs.declared.Checked.{Checked}
+use Rattle.checksums.specs.declared.Checked.the-variants.{Value, Refused}
+
+-- g added to the highest coefficients of l
+unfoldable pub added : List Bool → List Bool → List Bool
+added [] l = l
+added (a ∷ g) [] = []
+added (a ∷ g) (b ∷ l) = (a ⊕ b) ∷ added g l
+
+-- Long division, k steps: where the highest coefficient is one, the divisor is taken from it. The divisor is a one followed by g.
+unfoldable pub divided : List Bool → ℕ → List Bool → List Bool
+divided g zero l = l
+divided g (suc k) [] = []
+divided g (suc k) (false ∷ l) = divided g k l
+divided g (suc k) (true ∷ l) = divided g k (added g l)
+
+-- what is left of l, as many coefficients as g has
+abbrev pub remainder : List Bool → List Bool → List Bool
+remainder g l = divided g (length l - length g) l
+
+-- the checksum of a message: the remainder of the message followed by zeros
+abbrev pub checkBits : List Bool → List Bool → List Bool
+checkBits g message = remainder g (message ++ replicate (length g) false)
+
+-- x^16 + x^12 + x^5 + 1, hexadecimal 1021 (IS-136.1-A 4.4.3 and 5.2.6)
+abbrev pub ccitt : List Bool
+ccitt = bits (0 ∷ 0 ∷ 0 ∷ 1 ∷ 0 ∷ 0 ∷ 0 ∷ 0 ∷ 0 ∷ 0 ∷ 1 ∷ 0 ∷ 0 ∷ 0 ∷ 0 ∷ 1 ∷ [])
+
+-- x^7 + x^5 + x^4 + x^2 + x + 1, hexadecimal b7 (IS-54-B 2.1.3.3.3.3, TIA/EIA-136-410 4.3)
+abbrev pub speech : List Bool
+speech = bits (0 ∷ 1 ∷ 1 ∷ 0 ∷ 1 ∷ 1 ∷ 1 ∷ [])
+
+-- F-BCCH sends the complement
+abbrev pub complemented : CrcMode → ℕ → ℕ
+complemented Broadcast x = 65535 - x
+complemented Addressed x = x
+
+-- the 16-bit checksum of information under a colour code, whose eight bits go first
+unfoldable pub checksumOf : List Bool → ℕ → CrcMode → ℕ
+checksumOf information dvcc mode = complemented mode (packed (checkBits ccitt (unpacked 8 dvcc ++ information)))
+
+unfoldable pub checksum7Of : List Bool → ℕ
+checksum7Of information = packed (checkBits speech information)
+
+-- ---- answers
+abbrev pub answerOf : Checked → Answer ℕ
+answerOf (Value x) = accepted x
+answerOf (Refused r) = refused r
+
+-- a value of bits; Symbol where a byte is none
+abbrev pub ofBits : List ℕ → ℕ → Answer ℕ
+ofBits l x = cond (allBinary l) (accepted x) (refused Symbol)

@@ -1,0 +1,85 @@
+-- Encoding and decoding of a block (IS-136.1-A 4.4.3 and 5.2.6).
+use mathlib.Core.Path.{_≡_}
+use mathlib.Core.Bool.{Bool, true, false}
+use mathlib.Core.List.{List, _++_, reverse}
+use Prim.Native.Nat.{ℕ, _/_}
+use lib.Dec.{eqb}
+use lib.ListN.{length, take, drop, replicate}
+use Rattle.bits.specs.Bits.{bits, bytes}
+use Rattle.bits.specs.Numbers.{packed, unpacked}
+use Rattle.bits.specs.Refusals.{Answer, accepted, refused, firstOf, exactOf, binaryOf}
+use Rattle.bits.specs.declared.Lent.{Lent}
+use Rattle.bits.specs.declared.Lent.the-variants.{Fine, Refused}
+use Rattle.bits.specs.declared.Refusal.{Refusal}
+use Rattle.bits.specs.declared.Refusal.the-variants.{Crc}
+use Rattle.coding.specs.Codes.{coded, dcch}
+use Rattle.coding.specs.Registers.{memoryHigh}
+use Rattle.checksums.specs.Checksums.{checksumOf}
+use Rattle.checksums.specs.declared.CrcMode.{CrcMode}
+use Rattle.trellis.specs.Search.{First}
+use Rattle.trellis.specs.Words.{Terminated}
+use Rattle.viterbi.specs.Hard.{weight}
+use Rattle.dcch_interleaver.specs.declared.BlockFormat.{BlockFormat}
+use Rattle.bits.specs.declared.Wrote.{Wrote}
+use Rattle.bits.specs.Calls.{Written}
+use Rattle.dcch.specs.declared.block.Decoded.{Decoded}
+use Rattle.dcch.specs.declared.block.Decoded.the-variants as decoded
+use Rattle.dcch_interleaver.specs.Formats.{encodedBits, informationBits}
+use Rattle.dcch_interleaver.specs.Wire.{interleaved, deinterleaved}
+
+-- ---- encode
+-- the inputs of a block: the information, its checksum with the highest bit first, and the tail of five zeros
+unfoldable pub inputsOf : List Bool → ℕ → List Bool
+inputsOf information checksum = information ++ (unpacked 16 checksum ++ replicate 5 false)
+
+-- their coded bits, from state 0
+unfoldable pub cellsOf : List Bool → ℕ → CrcMode → List Bool
+cellsOf information dvcc mode = coded dcch (memoryHigh 0) (inputsOf information (checksumOf information dvcc mode))
+
+-- the block that is sent
+unfoldable pub blockOf : BlockFormat → List Bool → ℕ → CrcMode → List Bool
+blockOf f information dvcc mode = interleaved f false (cellsOf information dvcc mode)
+
+-- what an answer is to document 01: the corrected bits of an accepted block
+abbrev pub decodeAnswer : Decoded → Answer ℕ
+decodeAnswer (decoded.Accepted corrected) = accepted corrected
+decodeAnswer (decoded.Refused why) = refused why
+
+-- a slice of information and room for the block: each length, then the symbols
+abbrev pub lentEncode : BlockFormat → List ℕ → ℕ → Lent
+lentEncode f information room = firstOf (exactOf (informationBits f) (length information)) (firstOf (exactOf (encodedBits f) room) (binaryOf information))
+
+abbrev pub Encoding : BlockFormat → List ℕ → ℕ → CrcMode → List ℕ → List ℕ → Wrote → Type 0
+Encoding f information dvcc mode block₀ block r =
+    Written (lentEncode f information (length block₀)) (bytes (blockOf f (bits information) dvcc mode)) block₀ block r
+
+-- ---- decode
+-- a block and room for the information: each length, then the symbols
+abbrev pub lentDecode : BlockFormat → List ℕ → ℕ → Lent
+lentDecode f block room = firstOf (exactOf (encodedBits f) (length block)) (firstOf (exactOf (informationBits f) room) (binaryOf block))
+
+-- whether the checksum in a word's inputs, of which the first n are information, is that of the information
+unfoldable pub sound : ℕ → List Bool → ℕ → CrcMode → Bool
+sound n inputs dvcc mode = eqb (packed (take 16 (drop n inputs))) (checksumOf (take n inputs) dvcc mode)
+
+-- the end of a decoding: the information and the count where the checksum is right, else Crc and nothing written
+pub record Finished (inputs : List Bool) (corrected dvcc : ℕ) (mode : CrcMode) (information₀ information : List ℕ) (r : Decoded) : Type 0 where
+  pub taken : sound (length information₀) inputs dvcc mode ≡ true → (decodeAnswer r ≡ accepted corrected) × (information ≡ bytes (take (length information₀) inputs))
+  pub spoilt : sound (length information₀) inputs dvcc mode ≡ false → (decodeAnswer r ≡ refused Crc) × (information ≡ information₀)
+
+-- what the search of a block finds: the first of the nearest words, as bytes, and its number of disagreements
+pub record Found (f : BlockFormat) (block word : List ℕ) (corrected : ℕ) : Type 0 where
+  pub inputs : List Bool
+  pub written : word ≡ bytes (reverse inputs)
+  pub first : First (Terminated (encodedBits f / 2)) (weight (deinterleaved f false (bits block))) inputs
+  pub count : corrected ≡ weight (deinterleaved f false (bits block)) inputs
+
+-- the word that a decoding works with: the first of the words nearest to the received cells, among all inputs that end in five zeros
+pub record Settled (f : BlockFormat) (block : List ℕ) (dvcc : ℕ) (mode : CrcMode) (information₀ information : List ℕ) (r : Decoded) : Type 0 where
+  pub word : List Bool
+  pub first : First (Terminated (encodedBits f / 2)) (weight (deinterleaved f false (bits block))) word
+  pub finished : Finished (reverse word) (weight (deinterleaved f false (bits block)) word) dvcc mode information₀ information r
+
+pub record Decoding (f : BlockFormat) (block : List ℕ) (dvcc : ℕ) (mode : CrcMode) (information₀ information : List ℕ) (r : Decoded) : Type 0 where
+  pub declined : (why : Refusal) → lentDecode f block (length information₀) ≡ Refused why → (decodeAnswer r ≡ refused why) × (information ≡ information₀)
+  pub settled : lentDecode f block (length information₀) ≡ Fine → Settled f block dvcc mode information₀ information r

@@ -1,2 +1,0 @@
--- DCCH blocks: encoding, and decoding of received bits.
-pub mod Blocks

@@ -1,2 +1,0 @@
--- The law that joins the definition to the contract of the calls.
-pub mod Meaning

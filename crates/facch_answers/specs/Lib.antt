@@ -1,2 +1,0 @@
--- The answer of FACCH's decoding as one definition.
-pub mod Answers

@@ -1,2 +1,0 @@
--- What was received.
-pub mod Received

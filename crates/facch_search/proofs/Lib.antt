@@ -1,3 +1,0 @@
--- The laws.
-pub mod Rotating
-pub mod Turned

@@ -1,2 +1,0 @@
--- The search for the nearest word.
-pub mod Search

@@ -1,3 +1,0 @@
--- The laws.
-pub mod WordBits
-pub mod Biting

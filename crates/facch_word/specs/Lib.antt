@@ -1,2 +1,0 @@
--- FACCH words and their coded bits.
-pub mod Words

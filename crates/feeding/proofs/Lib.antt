@@ -1,3 +1,0 @@
--- The laws.
-pub mod Gathered
-pub mod Stepped

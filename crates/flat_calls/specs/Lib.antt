@@ -1,2 +1,0 @@
--- The answers of calls that write bits.
-pub mod Calls

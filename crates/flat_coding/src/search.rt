@@ -1,0 +1,99 @@
+// Flat functions over `viterbi`: the bare searches. Each answers a number of document 01, or 0 with its result.
+use bits::Lent;
+use bits::Refusal;
+use bits::exact;
+use bits::first;
+use bits::only_bits;
+use bits::refusals::actual;
+use bits::refusals::expected;
+use bits::refusals::number;
+ghost use mathlib.Core.Path.{_≡_};
+ghost use lib.ListN.{length};
+ghost use Rattle.bits.specs.Bits.{bits};
+ghost use Rattle.trellis.specs.Search.{Found, FoundFirst};
+ghost use Rattle.trellis.specs.Words.{OfLength, Terminated};
+ghost use Rattle.viterbi.specs.Hard.{freeWeight, weight};
+ghost use Rattle.flat_coding.specs.FlatSearch.{SearchAnswer, lentBlock, lentPairs, noSearch};
+
+// expected and actual are those of a refusal for length.
+#[repr(C)]
+pub struct Search {
+    pub refusal: u8,
+    pub expected: usize,
+    pub actual: usize,
+    pub metric: u16,
+    pub tie: bool,
+}
+
+// Whether a received block can be searched into a word of so many bits.
+fn search_refusal(coded: &[u8], steps: usize) -> Lent
+    ensures { λ r. ⌜ r ≡ lentBlock (now (coded .entry)) steps ⌝ }
+{
+    let length = coded.len();
+    let block = pairs(length);
+    first(block, first(exact(length / 2, steps), only_bits(coded)))
+}
+
+// Refused where a length is no number of pairs from 5 to 130.
+fn pairs(length: usize) -> Lent
+    ensures { λ r. ⌜ r ≡ lentPairs length ⌝ }
+{
+    if length < 10 {
+        return exact(260, length);
+    }
+    if 260 < length {
+        return exact(260, length);
+    }
+    if length % 2 == 1 {
+        return exact(260, length);
+    }
+    Lent::Fine
+}
+
+fn no_search(why: Refusal) -> Search
+    ensures { λ r. ⌜ r ≡ noSearch why ⌝ }
+{
+    Search {
+        refusal: number(why),
+        expected: expected(why),
+        actual: actual(why),
+        metric: 0,
+        tie: false,
+    }
+}
+
+// The nearest word that ends in five zeros, from state 0, and its disagreements: the bare search of DCCH.
+pub fn terminated(coded: &[u8], word: &mut [u8]) -> Search
+    ensures { λ r. ⌜ SearchAnswer (FoundFirst (Terminated (length (now (word .entry)))) (weight (bits (now (coded .entry))))) (now (coded .entry)) (now (word .entry)) (now (word .exit)) r ⌝ }
+{
+    let ready = search_refusal(coded, word.len());
+    if let Lent::Refused(why) = ready {
+        return no_search(why);
+    }
+    let found = viterbi::terminated(coded, word);
+    Search {
+        refusal: 0,
+        expected: 0,
+        actual: 0,
+        metric: found.metric,
+        tie: found.tie,
+    }
+}
+
+// A nearest word over all 32 starting memories: the bare search of SACCH.
+pub fn free(coded: &[u8], word: &mut [u8]) -> Search
+    ensures { λ r. ⌜ SearchAnswer (Found (OfLength (length (now (word .entry)))) (freeWeight (bits (now (coded .entry))))) (now (coded .entry)) (now (word .entry)) (now (word .exit)) r ⌝ }
+{
+    let ready = search_refusal(coded, word.len());
+    if let Lent::Refused(why) = ready {
+        return no_search(why);
+    }
+    let found = viterbi::free(coded, word);
+    Search {
+        refusal: 0,
+        expected: 0,
+        actual: 0,
+        metric: found.metric,
+        tie: found.tie,
+    }
+}

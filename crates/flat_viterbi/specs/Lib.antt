@@ -1,2 +1,0 @@
--- What the flat functions over `viterbi` answer.
-pub mod Flat

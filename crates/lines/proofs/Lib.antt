@@ -1,0 +1,6 @@
+-- The laws.
+-- The laws.
+-- The laws.
+pub mod Forms
+pub mod Masking
+pub mod Lettered

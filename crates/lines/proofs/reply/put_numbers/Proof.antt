@@ -1,0 +1,27 @@
+-- `put_numbers` meets its contract. Assumes nothing.
+use Prim.Native.Nat.{_-_}
+use Rattle.text.proofs.Stored.{put-then}
+use borrow.Author.Needs.{needs}
+use borrow.Author.Needs.{needs}
+use Rattle.lines.proofs.reply.put_numbers.Statement.{statement}
+use Rattle.lines.proofs.reply.put_numbers.Tie as tie
+
+put-hexadecimal-requires : tie.Need-put-hexadecimal-requires
+put-hexadecimal-requires c κs = search needs
+
+put-hexadecimal-requires-2 : tie.Need-put-hexadecimal-requires-2
+put-hexadecimal-requires-2 c κs = search needs
+
+put-requires : tie.Need-put-requires
+put-requires c κs = search needs
+
+same-length : tie.Need-same-length
+same-length c = search needs
+
+returns : tie.Need-returns
+returns c = (put-then (c .before .before .before .before .before .before .before .before .before .before .put-hexadecimal .ensures .0) (put-then (c .before .before .before .before .before .before .put-hexadecimal2 .ensures .0) (c .before .before .put .ensures)), search needs)
+
+pub put-numbers-spec : {M : Type 1} → statement M
+put-numbers-spec =
+    tie.close
+    (tie.spec put-hexadecimal-requires put-hexadecimal-requires-2 put-requires same-length returns)

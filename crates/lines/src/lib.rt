@@ -1,0 +1,4 @@
+// Merged.
+pub mod command;
+pub mod mask;
+pub mod reply;

@@ -1,2 +1,0 @@
--- The bits of an `F` line.
-pub mod Masked

@@ -1,2 +1,0 @@
--- The words of a length that weigh least, as a list.
-pub mod Nearest

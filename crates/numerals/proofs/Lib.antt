@@ -1,3 +1,0 @@
--- The laws.
-pub mod Stored
-pub mod Numerals

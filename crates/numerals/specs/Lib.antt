@@ -1,3 +1,0 @@
--- Numbers as text, and what is stored of it.
-pub mod Writing
-pub mod Numerals

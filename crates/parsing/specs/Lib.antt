@@ -1,2 +1,0 @@
--- What a line asks for.
-pub mod Commands

@@ -1,2 +1,0 @@
--- The places of a row of branch metrics.
-pub mod Places

@@ -1,2 +1,0 @@
--- The lines that answer.
-pub mod Printing

@@ -1,2 +1,0 @@
--- The reply to one line.
-pub mod Replies

@@ -1,2 +1,0 @@
--- Runs of places.
-pub mod Runs

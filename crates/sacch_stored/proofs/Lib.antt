@@ -1,3 +1,0 @@
--- The laws.
-pub mod Unrolled
-pub mod Decoded

@@ -1,2 +1,0 @@
--- What a receiver has stored.
-pub mod Stored

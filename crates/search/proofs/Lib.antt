@@ -1,0 +1,14 @@
+-- The laws.
+-- The laws.
+-- The laws.
+-- The laws.
+-- The laws.
+pub mod Finding
+pub mod Ends
+pub mod Deciding
+pub mod Selecting
+pub mod Butterflies
+pub mod Running
+pub mod Survivors
+pub mod Tracing
+pub mod ByPlace

@@ -1,4 +1,0 @@
--- The laws.
-pub mod Finding
-pub mod Ends
-pub mod Deciding

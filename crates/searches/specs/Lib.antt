@@ -1,2 +1,0 @@
--- The ends of a search over all ending states.
-pub mod Ends

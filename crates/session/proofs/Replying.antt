@@ -1,0 +1,81 @@
+-- The reply to one line. Assumes nothing.
+use mathlib.Core.Path.{_≡_, refl, sym, ap, subst, _∙_}
+use mathlib.Core.Bool.{Bool, true, false, cond}
+use mathlib.Core.List.{List, [], _∷_}
+use Prim.Native.Nat.{ℕ, _<_}
+use native.Mathlib.Decide.{decLt}
+use native.Mathlib.Omega.{arith}
+use lib.ListN.{length, take, drop}
+use lib.Seq.{take-all}
+use Rattle.bits.specs.Refusals.{firstOf, exactOf}
+use Rattle.bits.specs.declared.Lent.the-variants.{Fine, Refused}
+use Rattle.bits.specs.declared.Refusal.the-variants.{Symbol}
+use Rattle.tailbiting.specs.TailBiting.{allErasable}
+use Rattle.facch.specs.Decoding.{Decoding, decodeAnswer}
+use Rattle.facch.specs.Received.{erasableOf, lentErased}
+use Rattle.facch.specs.declared.Decoded.{Decoded}
+use Rattle.facch.specs.Answers.{decodeErasedOf}
+use Rattle.facch.proofs.Meaning.{decoding-is}
+use Rattle.lines.specs.Commands.{parsed}
+use Rattle.lines.specs.Masked.{digitBits, masked, observedBits}
+use Rattle.lines.specs.declared.command.Command.{Command}
+use Rattle.lines.specs.declared.command.Command.the-variants as command
+use Rattle.lines.specs.declared.reply.Reply.{Reply}
+use Rattle.lines.specs.declared.reply.Reply.the-variants as reply
+use Rattle.lines.proofs.Forms.{parsed-long, parsed-cut}
+use Rattle.lines.proofs.Masking.{length-observed}
+use Rattle.sacch_receiver.specs.Receiver.{Moved, moved, outcomeAnswer, freshReceiver, pushOf}
+use Rattle.sacch_receiver.specs.declared.Pushed.{Pushed}
+use Rattle.sacch_receiver.specs.declared.SacchReceiver.{SacchReceiver}
+use Rattle.session.specs.Replies.{commandReplied, facchReply, replyTo, sacchReplied, sacchReply}
+
+-- ---- by what the line asks for
+pub field-replied : (r : SacchReceiver) (dvcc field : ℕ) (p : Pushed) {a : Reply} → moved p ≡ pushOf r field dvcc → a ≡ sacchReply (outcomeAnswer (p .outcome))
+    → record { receiver = p .receiver; dvcc = dvcc; reply = a } ≡ sacchReplied r dvcc field
+unfolding sacchReplied
+field-replied r dvcc field p e f =
+    ap (λ (a : Reply). record { receiver = p .receiver; dvcc = dvcc; reply = a }) f
+    ∙ ap (λ (m : Moved). record { receiver = m .receiver; dvcc = dvcc; reply = sacchReply (m .answer) }) e
+
+pub word-replied : (r : SacchReceiver) (dvcc : ℕ) (l : List ℕ) {a : Reply} → a ≡ facchReply (decodeErasedOf (observedBits l) dvcc)
+    → record { receiver = r; dvcc = dvcc; reply = a } ≡ commandReplied r l (command.Facch dvcc)
+unfolding commandReplied
+word-replied r dvcc l e = ap (λ (a : Reply). record { receiver = r; dvcc = dvcc; reply = a }) e
+
+pub reset-replied : (r : SacchReceiver) (l : List ℕ) {f : SacchReceiver} → f ≡ freshReceiver
+    → record { receiver = f; dvcc = 0; reply = reply.Discontinuous } ≡ commandReplied r l command.Discontinuity
+unfolding commandReplied
+reset-replied r l e = ap (λ (f : SacchReceiver). record { receiver = f; dvcc = 0; reply = reply.Discontinuous }) e
+
+pub replied-at : (r : SacchReceiver) (l : List ℕ) {p q : Command} → p ≡ parsed l → p ≡ q → commandReplied r l q ≡ replyTo r l
+unfolding replyTo
+replied-at r l e f = ap (commandReplied r l) (sym f ∙ e)
+
+-- ---- the bits of an `F` line are 260 bytes 0, 1 and 2
+masked-erasable : (bs ms : List Bool) → allErasable (masked bs ms) ≡ true
+unfolding masked allErasable
+masked-erasable [] ms = refl
+masked-erasable (b ∷ bs) [] = refl
+masked-erasable (b ∷ bs) (false ∷ ms) = masked-erasable bs ms
+masked-erasable (false ∷ bs) (true ∷ ms) = masked-erasable bs ms
+masked-erasable (true ∷ bs) (true ∷ ms) = masked-erasable bs ms
+
+pub observed-fine : (l : List ℕ) → length l ≡ 136 → lentErased (observedBits l) ≡ Fine
+unfolding observedBits
+observed-fine l e =
+    ap (λ (n : ℕ). firstOf (exactOf 260 n) (erasableOf (observedBits l))) (length-observed l e)
+    ∙ ap (λ (t : Bool). cond t Fine (Refused Symbol)) (masked-erasable (digitBits (take 65 (drop 5 l))) (digitBits (take 65 (drop 71 l))))
+
+-- what `decode_erased` answers to them
+pub facch-replied : (l : List ℕ) (dvcc : ℕ) {bits : List ℕ} (d : Decoded) {a : Reply} → length l ≡ 136 → bits ≡ observedBits l
+    → Decoding (lentErased bits) bits dvcc (decodeAnswer d) → a ≡ facchReply (decodeAnswer d) → a ≡ facchReply (decodeErasedOf (observedBits l) dvcc)
+facch-replied l dvcc d long e p f =
+    f ∙ ap facchReply (decoding-is (observedBits l) dvcc (observed-fine l long) (subst (λ (bits : List ℕ). Decoding (lentErased bits) bits dvcc (decodeAnswer d)) e p))
+
+-- ---- no reply depends on more than 137 characters
+pub replied-cut : (r : SacchReceiver) (l : List ℕ) → replyTo r (take 137 l) ≡ replyTo r l
+unfolding replyTo commandReplied
+replied-cut r l = elim (decLt 136 (length l)) [ yes h ↦ long h | no h ↦ ap (replyTo r) (take-all 137 l (omega arith)) ]
+  where
+    long : 136 < length l → commandReplied r (take 137 l) (parsed (take 137 l)) ≡ commandReplied r l (parsed l)
+    long h = ap (commandReplied r (take 137 l)) (parsed-cut l ∙ sym (parsed-long l h)) ∙ ap (commandReplied r l) (parsed-long l h)

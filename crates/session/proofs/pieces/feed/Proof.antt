@@ -1,0 +1,61 @@
+-- `feed` meets its contract: the bytes passed are fed. Assumes nothing.
+use Prim.Native.Nat.{_-_}
+use native.Mathlib.Omega.{arith}
+use lib.ListN.{length}
+use Rattle.session.proofs.Stepped.{Feeding, feeding-none, feeding-more, feeding-room, feeding-done, feeding-fits}
+use borrow.Author.Needs.{needs}
+use Rattle.session.proofs.pieces.feed.Statement.{statement}
+use Rattle.session.proofs.pieces.feed.Tie as tie
+
+abbrev Inv-loop : tie.InvT-loop
+Inv-loop piece line₀ counts₀ out₀ fed₀ i₀ line counts out fed i = Feeding (fed₀ .session) piece line₀ counts₀ out₀ i line counts out fed
+
+abbrev μ-loop : tie.MeasureT-loop
+μ-loop piece line₀ counts₀ out₀ fed₀ i₀ line counts out fed i = length piece - i
+
+loop-holds : tie.Need-loop-holds Inv-loop μ-loop
+loop-holds c = feeding-none (c .before .before .before .before .pre .0)
+
+line-end-requires : tie.Need-line-end-requires Inv-loop μ-loop
+line-end-requires c κs = search needs
+
+add-i : tie.Need-add-i Inv-loop μ-loop
+add-i c = search needs
+
+feed-part-requires : tie.Need-feed-part-requires Inv-loop μ-loop
+feed-part-requires c κs = (c .before .before .before .before .before .before .loop .inv .fed .sound, feeding-room (c .before .before .before .before .before .before .loop .inv) (c .before .before .before .before .before .loop-test .taken) (c .before .before .before .before .before .before .before .before .before .before .before .pre .1), c .before .before .before .before .line-end .ensures)
+
+loop-less : tie.Need-loop-less Inv-loop μ-loop
+loop-less c = search needs
+
+loop-again : tie.Need-loop-again Inv-loop μ-loop
+loop-again c = feeding-more (c .before .before .before .before .before .before .before .before .before .before .before .before .before .loop .inv) (omega arith) (c .before .before .before .before .before .before .before .before .before .before .before .line-end .ensures) (c .before .before .before .before .before .before .feed-part .ensures)
+
+same-length : tie.Need-same-length Inv-loop μ-loop
+same-length c = search needs
+
+same-length-2 : tie.Need-same-length-2 Inv-loop μ-loop
+same-length-2 c = search needs
+
+same-length-3 : tie.Need-same-length-3 Inv-loop μ-loop
+same-length-3 c = search needs
+
+returns : tie.Need-returns Inv-loop μ-loop
+returns c = (feeding-done (c .before .loop .inv) (omega arith), feeding-fits (c .before .loop .inv) (c .before .before .before .before .before .before .pre .1))
+
+pub feed-spec : {M : Type 1} → statement M
+feed-spec =
+    tie.close
+    (tie.spec
+    Inv-loop
+    μ-loop
+    loop-holds
+    line-end-requires
+    add-i
+    feed-part-requires
+    loop-less
+    loop-again
+    same-length
+    same-length-2
+    same-length-3
+    returns)

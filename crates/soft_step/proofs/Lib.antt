@@ -1,3 +1,0 @@
--- The laws.
-pub mod Costs
-pub mod Butterflies

@@ -1,2 +1,0 @@
--- The inputs of a frame.
-pub mod Inputs

@@ -1,2 +1,0 @@
--- The places of a frame.
-pub mod Turns

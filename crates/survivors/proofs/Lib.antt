@@ -1,4 +1,0 @@
--- The laws.
-pub mod Running
-pub mod Survivors
-pub mod Tracing

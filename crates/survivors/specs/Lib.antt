@@ -1,3 +1,0 @@
--- The forward recursion (Engine) and the traceback.
-pub mod Engine
-pub mod Traceback

@@ -1,3 +1,0 @@
--- The laws.
-pub mod Joined
-pub mod Turns

@@ -1,2 +1,0 @@
--- Totals and closing lines.
-pub mod Totals
