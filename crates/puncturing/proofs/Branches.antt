@@ -35,21 +35,21 @@ step-rows f h z =
     record {
       five = f .size;
       pairs = λ i low. f .right i (omega arith);
-      free = λ slot low. ap (λ (row : List ℕ). getD row slot 0) z ∙ getD-replicate 64 slot 0 0 low;
+      free = λ place low. ap (λ (row : List ℕ). getD row place 0) z ∙ getD-replicate 64 place 0 0 low;
     }
 
 -- ---- a place of a row
-distance-le : (slot : ℕ) (first second : Bool) → distanceAt slot first second ≤ 2
-distance-le slot first second = omega (arith, differ-le (outputAt 0b101011 slot) first, differ-le (outputAt 0b111101 slot) second)
+distance-le : (place : ℕ) (first second : Bool) → distanceAt place first second ≤ 2
+distance-le place first second = omega (arith, differ-le (outputAt 0b101011 place) first, differ-le (outputAt 0b111101 place) second)
 
-sent-tally : (slot : ℕ) (first second : Bool) (r : List Heard)
-    → distanceAt slot first second ≡ tally cost (outputsAt acelp slot) (heard first ∷ heard second ∷ r)
+sent-tally : (place : ℕ) (first second : Bool) (r : List Heard)
+    → distanceAt place first second ≡ tally cost (outputsAt acelp place) (heard first ∷ heard second ∷ r)
 unfolding tally
-sent-tally slot first second r = omega arith
+sent-tally place first second r = omega arith
 
-silent-tally : (slot : ℕ) (r : List Heard) → 0 ≡ tally cost (outputsAt acelp slot) (silence ∷ silence ∷ r)
+silent-tally : (place : ℕ) (r : List Heard) → 0 ≡ tally cost (outputsAt acelp place) (silence ∷ silence ∷ r)
 unfolding tally
-silent-tally slot r = refl
+silent-tally place r = refl
 
 module _ (coded symbols : List ℕ) (rows : List (List ℕ)) (enough : length coded ≡ 208) (size : length symbols ≡ 108) (binary : allBinary coded ≡ true)
     (fine : StepRows rows) (read : SymbolsTo coded symbols 108) where
@@ -70,21 +70,21 @@ module _ (coded symbols : List ℕ) (rows : List (List ℕ)) (enough : length co
   none k h quiet = read k h ∙ ap (λ (t : Bool). cond t 4 (pairOf coded (k - k / 27))) quiet
 
   row : (k : ℕ) → k < 108 → RowAt acelp cost (spread sentMask (bits coded)) rows symbols k
-  row k h slot low = by (silent k) refl ∙ ap (tally cost (outputsAt acelp slot)) (sym (received (bits coded) k h))
+  row k h place low = by (silent k) refl ∙ ap (tally cost (outputsAt acelp place)) (sym (received (bits coded) k h))
     where
       rest : List Heard
       rest = drop (k * 2 + 2) (spread sentMask (bits coded))
 
-      by : (s : Bool) → silent k ≡ s → getD (getD rows (getD symbols k 0) []) slot 0
-          ≡ tally cost (outputsAt acelp slot) (heardAt (bits coded) (silent k) (pairAt k) ∷ heardAt (bits coded) (silent k) (pairAt k + 1) ∷ rest)
+      by : (s : Bool) → silent k ≡ s → getD (getD rows (getD symbols k 0) []) place 0
+          ≡ tally cost (outputsAt acelp place) (heardAt (bits coded) (silent k) (pairAt k) ∷ heardAt (bits coded) (silent k) (pairAt k + 1) ∷ rest)
       by true e =
-          ap (λ (i : ℕ). getD (getD rows i []) slot 0) (none k h e) ∙ fine .free slot low ∙ silent-tally slot rest
-          ∙ ap (λ (s : Bool). tally cost (outputsAt acelp slot) (heardAt (bits coded) s (pairAt k) ∷ heardAt (bits coded) s (pairAt k + 1) ∷ rest)) (sym e)
+          ap (λ (i : ℕ). getD (getD rows i []) place 0) (none k h e) ∙ fine .free place low ∙ silent-tally place rest
+          ∙ ap (λ (s : Bool). tally cost (outputsAt acelp place) (heardAt (bits coded) s (pairAt k) ∷ heardAt (bits coded) s (pairAt k + 1) ∷ rest)) (sym e)
       by false e =
-          fine .pairs (getD symbols k 0) (pair k h e .0) slot low
-          ∙ ap₂ (λ (p q : Bool). distanceAt slot p q) (pair k h e .1) (pair k h e .2)
-          ∙ sent-tally slot (getD (bits coded) (pairAt k) false) (getD (bits coded) (pairAt k + 1) false) rest
-          ∙ ap (λ (s : Bool). tally cost (outputsAt acelp slot) (heardAt (bits coded) s (pairAt k) ∷ heardAt (bits coded) s (pairAt k + 1) ∷ rest)) (sym e)
+          fine .pairs (getD symbols k 0) (pair k h e .0) place low
+          ∙ ap₂ (λ (p q : Bool). distanceAt place p q) (pair k h e .1) (pair k h e .2)
+          ∙ sent-tally place (getD (bits coded) (pairAt k) false) (getD (bits coded) (pairAt k + 1) false) rest
+          ∙ ap (λ (s : Bool). tally cost (outputsAt acelp place) (heardAt (bits coded) s (pairAt k) ∷ heardAt (bits coded) s (pairAt k + 1) ∷ rest)) (sym e)
 
   pub metric-weight : (u : List Bool) → length u ≤ 108 → wordMetric newestLow (branchBy rows symbols) 0 u ≡ weight (bits coded) u
   unfolding weight

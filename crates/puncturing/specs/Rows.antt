@@ -10,7 +10,7 @@ use Rattle.viterbi.specs.Rows.{PairsTo, pairOf}
 pub record StepRows (rows : List (List ℕ)) : Type 0 where
   pub five : length rows ≡ 5
   pub pairs : PairsTo rows 4
-  pub free : (slot : ℕ) → slot < 64 → getD (getD rows 4 []) slot 0 ≡ 0
+  pub free : (place : ℕ) → place < 64 → getD (getD rows 4 []) place 0 ≡ 0
 
 -- what the step k receives: of each 27 steps the last sends nothing, so that k - k / 27 steps before it sent a pair
 abbrev pub symbolOf : List ℕ → ℕ → ℕ

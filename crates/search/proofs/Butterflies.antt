@@ -5,12 +5,27 @@ use mathlib.Core.List.{List}
 use Prim.Native.Nat.{ℕ, _+_, _*_, _/_, _%_, _<_, _≤_}
 use native.Mathlib.Omega.{arith}
 use native.Mathlib.Decide.{ℕ-discrete, decLt}
+use lib.Dec.{eqb, eqb→eq}
 use lib.ListN.{length, getD, set, length-set}
 use lib.Seq.{getD-set-same, getD-set-other}
+use Rattle.bits.specs.Bits.{bit}
+use Rattle.bits.proofs.Tested.{below-bit}
 use Rattle.trellis.specs.Numbering.{predLow}
+use Rattle.search.specs.Row.{placeOf}
 use Rattle.search.specs.Butterfly.{Advanced, candidateOf, metricInto, byteInto}
 use Rattle.search.specs.Select.{lesserOf, byteOf}
 use Rattle.search.specs.declared.butterfly.Column.{Column}
+
+-- where the row of the step into 2 n and into 2 n + 1 is read: 32 on from the upper predecessor
+abbrev upper : Bool → ℕ → ℕ
+upper false n = n
+upper true n = n + 32
+
+place-even : (n : ℕ) (b : Bool) → n < 16 → upper b n ≡ placeOf (predLow (n * 2) b) (bit (n * 2))
+place-even n b h = eqb→eq _ _ (below-bit (λ b n. eqb (upper b n) (placeOf (predLow (n * 2) b) (bit (n * 2)))) 16 tt tt b n h)
+
+place-odd : (n : ℕ) (b : Bool) → n < 16 → upper b (n + 16) ≡ placeOf (predLow (n * 2 + 1) b) (bit (n * 2 + 1))
+place-odd n b h = eqb→eq _ _ (below-bit (λ b n. eqb (upper b (n + 16)) (placeOf (predLow (n * 2 + 1) b) (bit (n * 2 + 1)))) 16 tt tt b n h)
 
 -- the places 2 n and 2 n + 1 are right for each n below k
 abbrev pub Pairs : (ℕ → ℕ) → List ℕ → ℕ → Type 0
@@ -59,22 +74,21 @@ module _ (ms : List ℕ) (cs : List ℕ) where
       → Filled ms cs (set (set next (k * 2) v) (k * 2 + 1) w) (set (set bytes (k * 2) x) (k * 2 + 1) y) (k + 1)
   filled-more next bytes k v w x y h f ev ew ex ey =
       let e : k ≡ k * 2 / 2 = omega arith in
-      let s : k ≡ k * 2 / 2 + k * 2 % 2 * 16 = omega arith in
       let e' : k ≡ (k * 2 + 1) / 2 = omega arith in
-      let s' : k + 16 ≡ (k * 2 + 1) / 2 + (k * 2 + 1) % 2 * 16 = omega arith in
       let z : k + 48 ≡ k + 16 + 32 = omega arith in
+      let a = ap₂ (λ (i j : ℕ). getD ms i 0 + getD cs j 0) e (place-even k false h) in
+      let b = ap₂ (λ (i j : ℕ). getD ms (i + 16) 0 + getD cs j 0) e (place-even k true h) in
+      let c = ap₂ (λ (i j : ℕ). getD ms i 0 + getD cs j 0) e' (place-odd k false h) in
+      let d = ap₂ (λ (i j : ℕ). getD ms (i + 16) 0 + getD cs j 0) e' (z ∙ place-odd k true h) in
       record {
         low = omega arith;
         next-length = length-set (set next (k * 2) v) (k * 2 + 1) w ∙ length-set next (k * 2) v ∙ f .next-length;
         bytes-length = length-set (set bytes (k * 2) x) (k * 2 + 1) y ∙ length-set bytes (k * 2) x ∙ f .bytes-length;
         metric = set-pairs (metricInto ms cs) next k v w (f .next-length) h
-            (ev ∙ ap₂ (λ (i j : ℕ). lesserOf (getD ms i 0 + getD cs j 0) (getD ms (i + 16) 0 + getD cs (j + 32) 0)) e s)
-            (ew ∙ ap (λ (j : ℕ). lesserOf (getD ms k 0 + getD cs (k + 16) 0) (getD ms (k + 16) 0 + getD cs j 0)) z
-            ∙ ap₂ (λ (i j : ℕ). lesserOf (getD ms i 0 + getD cs j 0) (getD ms (i + 16) 0 + getD cs (j + 32) 0)) e' s') (f .metric);
+            (ev ∙ ap₂ lesserOf a b) (ew ∙ ap₂ lesserOf c d) (f .metric);
         byte = set-pairs (byteInto ms cs) bytes k x y (f .bytes-length) h
-            (ex ∙ ap₂ (λ (i j : ℕ). byteOf (getD ms i 0 + getD cs j 0) (getD ms (i + 16) 0 + getD cs (j + 32) 0) i) e s)
-            (ey ∙ ap (λ (j : ℕ). byteOf (getD ms k 0 + getD cs (k + 16) 0) (getD ms (k + 16) 0 + getD cs j 0) k) z
-            ∙ ap₂ (λ (i j : ℕ). byteOf (getD ms i 0 + getD cs j 0) (getD ms (i + 16) 0 + getD cs (j + 32) 0) i) e' s') (f .byte);
+            (ex ∙ ap₂ (λ (x y : ℕ). byteOf x y k) a b ∙ ap (byteOf (candidateOf ms cs (k * 2) false) (candidateOf ms cs (k * 2) true)) e)
+            (ey ∙ ap₂ (λ (x y : ℕ). byteOf x y k) c d ∙ ap (byteOf (candidateOf ms cs (k * 2 + 1) false) (candidateOf ms cs (k * 2 + 1) true)) e') (f .byte);
       }
 
   pub filled-all : (next bytes : List ℕ) (k : ℕ) → Filled ms cs next bytes k → 16 ≤ k → Advanced ms cs (record { metrics = next; predecessors = bytes })

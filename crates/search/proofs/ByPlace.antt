@@ -7,35 +7,41 @@ use native.Mathlib.Omega.{arith}
 use native.Mathlib.Nat.{zero-add, min-le-left}
 use lib.Bits.{bitAnd, and-step, and-zero-r}
 use lib.Count.{ones, ones-step}
-use lib.Dec.{T, eqb, leb, leb→le}
+use lib.Dec.{T, eqb, eqb→eq, leb, leb→le}
 use lib.ListN.{length, getD, drop}
 use Rattle.bits.specs.Bits.{bit, byte, tally, _⊕_}
+use Rattle.bits.specs.Places.{placeIn, listed}
 use Rattle.bits.proofs.Binary.{bit-byte, byte-below, byte-bit-any}
-use Rattle.bits.proofs.Tested.{both-left, both-right, below-bit, sameBits, sameBits-eq}
+use Rattle.bits.proofs.Tested.{both-left, both-right, below, below-bit, sameBits, sameBits-eq}
 use Rattle.coding.specs.Codes.{tapped, outputs, coded}
 use Rattle.coding.specs.Registers.{memoryLow}
 use Rattle.coding.proofs.Coded.{short}
-use Rattle.search.specs.Forward.{slotFrom, branchBy}
+use Rattle.search.specs.Forward.{branchBy}
 use Rattle.trellis.specs.Numbering.{newestLow}
-use Rattle.search.specs.Row.{registerAt, outputAt}
+use Rattle.search.specs.Row.{placeOf, registerAt, outputAt}
 use Rattle.trellis.specs.Words.{branchOf, wordMetric}
 use Rattle.trellis.proofs.Distance.{distance}
 use Rattle.trellis.proofs.Registers.{register-low, same-numbers}
 use Rattle.trellis.proofs.Renumber.{metric-same}
-use Rattle.search.proofs.Running.{slot-below}
+use Rattle.search.proofs.Running.{place-below}
 
 -- ---- the bytes of `outputs`
--- the parity of a count of ones, as a bit and as a byte
-pub output-byte : (taps slot register x : ℕ) → register ≡ registerAt slot → x ≡ ones (bitAnd register taps) % 2 → x ≡ byte (outputAt taps slot)
-unfolding outputAt
-output-byte taps slot register x er ex = ex ∙ ap (λ (r : ℕ). ones (bitAnd r taps) % 2) er ∙ sym (byte-bit-any _)
+-- the register of a place by arithmetic
+pub register-of : (place : ℕ) → place < 64 → (place % 16 + place / 32 * 16) * 2 + place / 16 % 2 ≡ registerAt place
+unfolding registerAt placeIn listed
+register-of place h = eqb→eq _ _ (below (λ (p : ℕ). eqb ((p % 16 + p / 32 * 16) * 2 + p / 16 % 2) (registerAt p)) 64 tt place h)
 
-pub output-below : (taps slot x : ℕ) → x ≡ byte (outputAt taps slot) → x < 2
-output-below taps slot x e = omega (arith, byte-below (outputAt taps slot))
+-- the parity of a count of ones, as a bit and as a byte
+pub output-byte : (taps place register x : ℕ) → register ≡ registerAt place → x ≡ ones (bitAnd register taps) % 2 → x ≡ byte (outputAt taps place)
+unfolding outputAt
+output-byte taps place register x er ex = ex ∙ ap (λ (r : ℕ). ones (bitAnd r taps) % 2) er ∙ sym (byte-bit-any _)
+
+pub output-below : (taps place x : ℕ) → x ≡ byte (outputAt taps place) → x < 2
+output-below taps place x e = omega (arith, byte-below (outputAt taps place))
 
 -- a cost against an output byte is one against the output bit
-pub place-cost : {B : Type 0} (f : Bool → B → ℕ) (taps slot x : ℕ) (received : B) (a : ℕ) → x ≡ byte (outputAt taps slot) → a ≡ f (bit x) received → a ≡ f (outputAt taps slot) received
-place-cost f taps slot x received a ex ea = ea ∙ ap (λ (p : Bool). f p received) (ap bit ex ∙ bit-byte (outputAt taps slot))
+pub place-cost : {B : Type 0} (f : Bool → B → ℕ) (taps place x : ℕ) (received : B) (a : ℕ) → x ≡ byte (outputAt taps place) → a ≡ f (bit x) received → a ≡ f (outputAt taps place) received
+place-cost f taps place x received a ex ea = ea ∙ ap (λ (p : Bool). f p received) (ap bit ex ∙ bit-byte (outputAt taps place))
 
 -- ---- parities and tapped inputs
 -- a generator as a number, the coefficient of D^0 lowest
@@ -88,29 +94,30 @@ parity-tapped (a ∷ g) (suc n) r h = parity-step r (tapsOf g) a ∙ ap (λ (x :
 
 -- ---- the output bits of a place
 abbrev pub outputsAt : List (List Bool) → ℕ → List Bool
-outputsAt code slot = map (λ (g : List Bool). outputAt (tapsOf g) slot) code
+outputsAt code place = map (λ (g : List Bool). outputAt (tapsOf g) place) code
 
 -- its register holds the input and the five before it
-place-inputs : (s : ℕ) (b : Bool) → s < 32 → lowBits 6 (registerAt (slotFrom s b)) ≡ b ∷ memoryLow s
-place-inputs s b h = sameBits-eq _ _ (below-bit (λ b s. sameBits (lowBits 6 (registerAt (slotFrom s b))) (b ∷ memoryLow s)) 32 tt tt b s h)
+place-inputs : (s : ℕ) (b : Bool) → s < 32 → lowBits 6 (registerAt (placeOf s b)) ≡ b ∷ memoryLow s
+unfolding registerAt placeIn listed
+place-inputs s b h = sameBits-eq _ _ (below-bit (λ b s. sameBits (lowBits 6 (registerAt (placeOf s b))) (b ∷ memoryLow s)) 32 tt tt b s h)
 
-pub place-outputs : (code : List (List Bool)) → T (short code) → (s : ℕ) (b : Bool) → s < 32 → outputsAt code (slotFrom s b) ≡ outputs code (b ∷ memoryLow s)
+pub place-outputs : (code : List (List Bool)) → T (short code) → (s : ℕ) (b : Bool) → s < 32 → outputsAt code (placeOf s b) ≡ outputs code (b ∷ memoryLow s)
 unfolding outputAt
 place-outputs [] t s b h = refl
 place-outputs (g ∷ code) t s b h =
     ap₂ (λ (x : Bool) (l : List Bool). x ∷ l)
-    (parity-tapped g 6 (registerAt (slotFrom s b)) (leb→le (length g) 6 (both-left (leb (length g) 6) (short code) t)) ∙ ap (tapped g) (place-inputs s b h))
+    (parity-tapped g 6 (registerAt (placeOf s b)) (leb→le (length g) 6 (both-left (leb (length g) 6) (short code) t)) ∙ ap (tapped g) (place-inputs s b h))
     (place-outputs code (both-right (leb (length g) 6) (short code) t) s b h)
 
 -- ---- rows by place
 module _ {B : Type 0} (code : List (List Bool)) (f : Bool → B → ℕ) (received : List B) (rows : List (List ℕ)) (symbols : List ℕ) where
   -- the row of the step k holds what the outputs of each place cost against what was received of the step
   abbrev pub RowAt : ℕ → Type 0
-  RowAt k = (slot : ℕ) → slot < 64 → getD (getD rows (getD symbols k 0) []) slot 0 ≡ tally f (outputsAt code slot) (drop (k * length code) received)
+  RowAt k = (place : ℕ) → place < 64 → getD (getD rows (getD symbols k 0) []) place 0 ≡ tally f (outputsAt code place) (drop (k * length code) received)
 
   branches : T (short code) → (k s : ℕ) (b : Bool) → RowAt k → s < 32 → branchBy rows symbols k s b ≡ branchOf code memoryLow f received k s b
   unfolding branchBy branchOf
-  branches six k s b row h = row (slotFrom s b) (slot-below s b h) ∙ ap (λ (o : List Bool). tally f o (drop (k * length code) received)) (place-outputs code six s b h)
+  branches six k s b row h = row (placeOf s b) (place-below s b h) ∙ ap (λ (o : List Bool). tally f o (drop (k * length code) received)) (place-outputs code six s b h)
 
   -- a word's metric is the sum over its coded bits
   pub metric-coded : T (short code) → (n : ℕ) → ((k : ℕ) → k < n → RowAt k) → (s : ℕ) (u : List Bool) → s < 32 → length u ≤ n

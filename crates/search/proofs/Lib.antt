@@ -1,14 +1,10 @@
--- The laws.
--- The laws.
--- The laws.
--- The laws.
--- The laws.
-pub mod Finding
-pub mod Ends
-pub mod Deciding
+-- The laws of the searches' parts, in the order in which they run.
 pub mod Selecting
 pub mod Butterflies
 pub mod Running
+pub mod ByPlace
 pub mod Survivors
 pub mod Tracing
-pub mod ByPlace
+pub mod Ends
+pub mod Finding
+pub mod Deciding

@@ -15,18 +15,15 @@ use Rattle.trellis.specs.Trellis.{Trellis, wholes, stateMetric, candidate}
 use Rattle.trellis.proofs.Registers.{register-low}
 use Rattle.bits.proofs.Filled.{set-next}
 use Rattle.bits.proofs.Tested.{below-bit}
-use Rattle.search.specs.Butterfly.{Advanced, Fit, slotInto, candidateOf}
-use Rattle.search.specs.Forward.{slotFrom, MetricsAt, BytesAt, BytesTo, branchBy, engine, Starts, Rows, Forwarded}
+use Rattle.search.specs.Butterfly.{Advanced, Fit, candidateOf}
+use Rattle.search.specs.Forward.{MetricsAt, BytesAt, BytesTo, branchBy, engine, Starts, Rows, Forwarded}
+use Rattle.search.specs.Row.{placeOf}
 use Rattle.search.specs.Select.{lesserOf, byteOf}
 use Rattle.search.specs.declared.butterfly.Column.{Column}
 use Rattle.trellis.proofs.Optimal as opt
 
--- the two names of a place in a row
-slot-into : (t : ℕ) (b : Bool) → t < 32 → slotFrom (predLow t b) (bit t) ≡ slotInto t b
-slot-into t b h = eqb→eq (slotFrom (predLow t b) (bit t)) (slotInto t b) (below-bit (λ b t. eqb (slotFrom (predLow t b) (bit t)) (slotInto t b)) 32 tt tt b t h)
-
-pub slot-below : (s : ℕ) (b : Bool) → s < 32 → slotFrom s b < 64
-slot-below s b h = ltb→lt (slotFrom s b) 64 (below-bit (λ b s. ltb (slotFrom s b) 64) 32 tt tt b s h)
+pub place-below : (s : ℕ) (b : Bool) → s < 32 → placeOf s b < 64
+place-below s b h = ltb→lt (placeOf s b) 64 (below-bit (λ b s. ltb (placeOf s b) 64) 32 tt tt b s h)
 
 module _ (branch : ℕ → ℕ → Bool → ℕ) (start : List ℕ) where
   abbrev X : Trellis ℕ
@@ -34,7 +31,7 @@ module _ (branch : ℕ → ℕ → Bool → ℕ) (start : List ℕ) where
 
   -- the row has the branch metrics of the step k
   abbrev RowAt : List ℕ → ℕ → Type 0
-  RowAt row k = (t : ℕ) (b : Bool) → t < 32 → getD row (slotInto t b) 0 ≡ branch k (predLow t b) (bit t)
+  RowAt row k = (t : ℕ) (b : Bool) → t < 32 → getD row (placeOf (predLow t b) (bit t)) 0 ≡ branch k (predLow t b) (bit t)
 
   module _ (ms : List ℕ) (cs : List ℕ) (k : ℕ) (hm : MetricsAt X ms k) (hc : RowAt cs k) (r : Column) (adv : Advanced ms cs r) where
     via-at : (t : ℕ) (b : Bool) → t < 32 → candidateOf ms cs t b ≡ candidate wholes X k t b
@@ -71,7 +68,7 @@ forwarded {branch} {start} {ps₀} {ps} {ms} i n e =
 module _ (rs : List (List ℕ)) (ss : List ℕ) where
   pub branch-le : Rows rs ss → (k s : ℕ) (b : Bool) → k < length ss → s < 32 → branchBy rs ss k s b ≤ 4
   unfolding branchBy
-  branch-le c k s b hk hs = c .small (getD ss k 0) (slotFrom s b) (c .symbol k hk) (slot-below s b hs)
+  branch-le c k s b hk hs = c .small (getD ss k 0) (placeOf s b) (c .symbol k hk) (place-below s b hs)
 
   module _ (start : List ℕ) (k x : ℕ) (ex : x ≡ getD ss k 0) where
     pub fit : (ms : List ℕ) → Rows rs ss → Starts start → k ≤ 130 → k < length ss → MetricsAt (engine (branchBy rs ss) start) ms k → Fit ms (getD rs x [])
@@ -83,10 +80,9 @@ module _ (rs : List (List ℕ)) (ss : List ℕ) where
         let e : getD (getD rs x []) j 0 ≤ 4 = c .small x j (omega (arith, c .symbol k hl)) hj in
         omega arith
 
-    row-at : (t : ℕ) (b : Bool) → t < 32 → getD (getD rs x []) (slotInto t b) 0 ≡ branchBy rs ss k (predLow t b) (bit t)
+    row-at : (t : ℕ) (b : Bool) → t < 32 → getD (getD rs x []) (placeOf (predLow t b) (bit t)) 0 ≡ branchBy rs ss k (predLow t b) (bit t)
     unfolding branchBy
-    row-at t b h =
-        ap (λ (i : ℕ). getD (getD rs i []) (slotInto t b) 0) ex ∙ ap (λ (g : ℕ). getD (getD rs (getD ss k 0) []) g 0) (sym (slot-into t b h))
+    row-at t b h = ap (λ (i : ℕ). getD (getD rs i []) (placeOf (predLow t b) (bit t)) 0) ex
 
     -- one step more
     pub running-more : (ps₀ ps : List (List ℕ)) (ms : List ℕ) (r : Column) → Running (branchBy rs ss) start ps₀ ps ms k → k < length ps₀

@@ -5,20 +5,18 @@ use mathlib.Core.List.{List}
 use Prim.Native.Nat.{ℕ, _+_, _*_, _/_, _%_, _<_}
 use lib.ListN.{getD}
 use Rattle.search.specs.Select.{lesserOf, byteOf}
+use Rattle.bits.specs.Bits.{bit}
 use Rattle.trellis.specs.Numbering.{predLow}
+use Rattle.search.specs.Row.{placeOf}
 use Rattle.search.specs.declared.butterfly.Column.{Column}
-
--- the place in a row of the step into t from each predecessor: from lower predecessors into even states, into odd states, and the same from upper ones
-abbrev pub slotInto : ℕ → Bool → ℕ
-slotInto t false = t / 2 + t % 2 * 16
-slotInto t true = t / 2 + t % 2 * 16 + 32
 
 -- no sum of a metric and a branch metric leaves 16 bits
 abbrev pub Fit : List ℕ → List ℕ → Type 0
 Fit ms row = (i j : ℕ) → i < 32 → j < 64 → getD ms i 0 + getD row j 0 < 65536
 
+-- the metric into t from its lower (false) or its upper (true) predecessor: the input is the lowest bit of t
 abbrev pub candidateOf : List ℕ → List ℕ → ℕ → Bool → ℕ
-candidateOf ms row t b = getD ms (predLow t b) 0 + getD row (slotInto t b) 0
+candidateOf ms row t b = getD ms (predLow t b) 0 + getD row (placeOf (predLow t b) (bit t)) 0
 
 abbrev pub metricInto : List ℕ → List ℕ → ℕ → ℕ
 metricInto ms row t = lesserOf (candidateOf ms row t false) (candidateOf ms row t true)

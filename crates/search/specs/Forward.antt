@@ -4,18 +4,14 @@ use mathlib.Core.Bool.{Bool, true, false}
 use mathlib.Core.List.{List, []}
 use Prim.Native.Nat.{ℕ, _+_, _*_, _/_, _%_, _≤_, _<_}
 use lib.ListN.{length, getD}
-use Rattle.bits.specs.Bits.{byte}
 use Rattle.trellis.specs.Numbering.{predLow, newestLow}
 use Rattle.trellis.specs.Trellis.{Trellis, wholes, stateMetric, candidate}
+use Rattle.search.specs.Row.{placeOf}
 use Rattle.search.specs.Select.{byteOf}
-
--- the place in a row of the step from s with the input b
-abbrev pub slotFrom : ℕ → Bool → ℕ
-slotFrom s b = s % 16 + s / 16 * 32 + byte b * 16
 
 -- the step k has the row of its symbol
 unfoldable pub branchBy : List (List ℕ) → List ℕ → ℕ → ℕ → Bool → ℕ
-branchBy rows symbols k s b = getD (getD rows (getD symbols k 0) []) (slotFrom s b) 0
+branchBy rows symbols k s b = getD (getD rows (getD symbols k 0) []) (placeOf s b) 0
 
 -- the trellis of branch metrics and an array of start metrics
 abbrev pub engine : (ℕ → ℕ → Bool → ℕ) → List ℕ → Trellis ℕ

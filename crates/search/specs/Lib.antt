@@ -1,11 +1,8 @@
--- The ends of a search over all ending states.
--- Which of two candidates survives.
--- One step of the search.
--- The forward recursion (Engine) and the traceback.
--- The places of a row of branch metrics.
-pub mod Ends
+-- The layout of a row of branch metrics (Row), which candidate survives (Select), one step (Butterfly), all of them (Forward), the way back (Traceback), and
+-- the lowest of the ends (Ends).
+pub mod Row
 pub mod Select
 pub mod Butterfly
 pub mod Forward
 pub mod Traceback
-pub mod Row
+pub mod Ends

@@ -1,6 +1,6 @@
 // The search from one state to another.
 use crate::forward::forward;
-use crate::forward::traceback;
+use crate::traceback::traceback;
 use trellis::Outcome;
 ghost use mathlib.Core.Path.{_≡_};
 ghost use Prim.Native.Nat.{_<_, _≤_};

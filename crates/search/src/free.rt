@@ -1,6 +1,6 @@
 // The search over all starting and ending states (SACCH).
 use crate::forward::forward;
-use crate::forward::traceback;
+use crate::traceback::traceback;
 use trellis::Outcome;
 ghost use mathlib.Core.Bool.{cond, true};
 ghost use mathlib.Core.Path.{_≡_};

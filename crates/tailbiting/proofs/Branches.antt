@@ -25,13 +25,13 @@ use Rattle.tailbiting.proofs.Erasable.{erased-le}
 use Rattle.tailbiting.proofs.Turns.{end-below, leads-end}
 
 -- ---- one place
-cost-le : (slot a b c d : ℕ) → costAt slot a b c d ≤ 4
-cost-le slot a b c d =
-    omega (arith, erased-le (outputAt 0b111011 slot) a, erased-le (outputAt 0b100111 slot) b, erased-le (outputAt 0b101111 slot) c, erased-le (outputAt 0b110101 slot) d)
+cost-le : (place a b c d : ℕ) → costAt place a b c d ≤ 4
+cost-le place a b c d =
+    omega (arith, erased-le (outputAt 0b111011 place) a, erased-le (outputAt 0b100111 place) b, erased-le (outputAt 0b101111 place) c, erased-le (outputAt 0b110101 place) d)
 
-cost-tally : (slot a b c d : ℕ) (r : List ℕ) → costAt slot a b c d ≡ tally erasedDiffer (outputsAt facch slot) (a ∷ b ∷ c ∷ d ∷ r)
+cost-tally : (place a b c d : ℕ) (r : List ℕ) → costAt place a b c d ≡ tally erasedDiffer (outputsAt facch place) (a ∷ b ∷ c ∷ d ∷ r)
 unfolding tally
-cost-tally slot a b c d r = omega arith
+cost-tally place a b c d r = omega arith
 
 -- ---- the rows
 module _ (received symbols : List ℕ) (rows : List (List ℕ)) (height : length rows ≡ 65) (size : length symbols ≡ 65) (all : length received ≡ 260)
@@ -46,11 +46,11 @@ module _ (received symbols : List ℕ) (rows : List (List ℕ)) (height : length
       (drop-two received (k * 4 + 2) 0 (omega arith) ∙ ap (λ (i : ℕ). getD received (k * 4 + 2) 0 ∷ getD received i 0 ∷ drop (k * 4 + 2 + 2) received) e)
 
   row : (k : ℕ) → k < 65 → RowAt facch erasedDiffer received rows symbols k
-  row k h slot low =
-      ap (λ (i : ℕ). getD (getD rows i []) slot 0) (numbered k h)
-      ∙ filled k h slot low
-      ∙ cost-tally slot (getD received (k * 4) 0) (getD received (k * 4 + 1) 0) (getD received (k * 4 + 2) 0) (getD received (k * 4 + 3) 0) _
-      ∙ ap (tally erasedDiffer (outputsAt facch slot)) (sym (step k h))
+  row k h place low =
+      ap (λ (i : ℕ). getD (getD rows i []) place 0) (numbered k h)
+      ∙ filled k h place low
+      ∙ cost-tally place (getD received (k * 4) 0) (getD received (k * 4 + 1) 0) (getD received (k * 4 + 2) 0) (getD received (k * 4 + 3) 0) _
+      ∙ ap (tally erasedDiffer (outputsAt facch place)) (sym (step k h))
 
   -- no branch metric is above four
   pub modest : Rows rows symbols

@@ -8,12 +8,12 @@ use Rattle.tailbiting.specs.TailBiting.{erasedDiffer}
 
 -- the branch metric of a place against four received bytes
 abbrev pub costAt : ℕ → ℕ → ℕ → ℕ → ℕ → ℕ
-costAt slot a b c d =
-    erasedDiffer (outputAt 0b111011 slot) a + erasedDiffer (outputAt 0b100111 slot) b + (erasedDiffer (outputAt 0b101111 slot) c + erasedDiffer (outputAt 0b110101 slot) d)
+costAt place a b c d =
+    erasedDiffer (outputAt 0b111011 place) a + erasedDiffer (outputAt 0b100111 place) b + (erasedDiffer (outputAt 0b101111 place) c + erasedDiffer (outputAt 0b110101 place) d)
 
 -- the first k places of a row hold the branch metrics against four received bytes
 abbrev pub CostsTo : ℕ → ℕ → ℕ → ℕ → List ℕ → ℕ → Type 0
-CostsTo a b c d row k = (slot : ℕ) → slot < k → getD row slot 0 ≡ costAt slot a b c d
+CostsTo a b c d row k = (place : ℕ) → place < k → getD row place 0 ≡ costAt place a b c d
 
 -- a row is that of the step k
 abbrev pub RowOf : List ℕ → ℕ → List ℕ → Type 0

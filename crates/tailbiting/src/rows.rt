@@ -47,10 +47,10 @@ fn step_row(
     ensures { λ x. ⌜ CostsTo first second third fourth x 64 ⌝ }
 {
     let mut row = [0u16; 64];
-    for slot in 0..64 {
-        let x = erased_differs(p[slot], first) + erased_differs(q[slot], second);
-        let y = erased_differs(r[slot], third) + erased_differs(s[slot], fourth);
-        row[slot] = (x + y) as u16;
+    for place in 0..64 {
+        let x = erased_differs(p[place], first) + erased_differs(q[place], second);
+        let y = erased_differs(r[place], third) + erased_differs(s[place], fourth);
+        row[place] = (x + y) as u16;
     }
     row
 }

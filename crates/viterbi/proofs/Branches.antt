@@ -19,12 +19,12 @@ use Rattle.viterbi.specs.Hard.{weightFrom}
 use Rattle.viterbi.specs.Rows.{distanceAt, PairsTo, pairOf, SymbolsTo}
 
 -- ---- one place
-distance-le : (slot : ℕ) (first second : Bool) → distanceAt slot first second ≤ 2
-distance-le slot first second = omega (arith, differ-le (outputAt 0b101011 slot) first, differ-le (outputAt 0b111101 slot) second)
+distance-le : (place : ℕ) (first second : Bool) → distanceAt place first second ≤ 2
+distance-le place first second = omega (arith, differ-le (outputAt 0b101011 place) first, differ-le (outputAt 0b111101 place) second)
 
-distance-tally : (slot : ℕ) (first second : Bool) (r : List Bool) → distanceAt slot first second ≡ tally differ (outputsAt dcch slot) (first ∷ second ∷ r)
+distance-tally : (place : ℕ) (first second : Bool) (r : List Bool) → distanceAt place first second ≡ tally differ (outputsAt dcch place) (first ∷ second ∷ r)
 unfolding tally
-distance-tally slot first second r = omega arith
+distance-tally place first second r = omega arith
 
 -- ---- the rows
 module _ (coded symbols : List ℕ) (rows : List (List ℕ)) (n : ℕ) (four : length rows ≡ 4) (size : length symbols ≡ n) (twice : length coded ≡ n * 2)
@@ -44,11 +44,11 @@ module _ (coded symbols : List ℕ) (rows : List (List ℕ)) (n : ℕ) (four : l
       ∙ ap₂ (λ (x y : Bool). x ∷ y ∷ drop (k * 2 + 2) (bits coded)) (List·getD-map bit coded (k * 2) 0) (List·getD-map bit coded (k * 2 + 1) 0)
 
   row : (k : ℕ) → k < n → RowAt dcch differ (bits coded) rows symbols k
-  row k h slot low =
-      pairs (getD symbols k 0) (symbol k h .0) slot low
-      ∙ ap₂ (λ (p q : Bool). distanceAt slot p q) (ap bit (symbol k h .1)) (ap bit (symbol k h .2))
-      ∙ distance-tally slot (bit (getD coded (k * 2) 0)) (bit (getD coded (k * 2 + 1) 0)) (drop (k * 2 + 2) (bits coded))
-      ∙ ap (tally differ (outputsAt dcch slot)) (sym (received k h))
+  row k h place low =
+      pairs (getD symbols k 0) (symbol k h .0) place low
+      ∙ ap₂ (λ (p q : Bool). distanceAt place p q) (ap bit (symbol k h .1)) (ap bit (symbol k h .2))
+      ∙ distance-tally place (bit (getD coded (k * 2) 0)) (bit (getD coded (k * 2 + 1) 0)) (drop (k * 2 + 2) (bits coded))
+      ∙ ap (tally differ (outputsAt dcch place)) (sym (received k h))
 
   pub metric-weight : (s : ℕ) (u : List Bool) → s < 32 → length u ≤ n → wordMetric newestLow (branchBy rows symbols) s u ≡ weightFrom (memoryLow s) (bits coded) u
   unfolding weightFrom

@@ -9,11 +9,11 @@ use Rattle.search.specs.Row.{outputAt}
 
 -- the disagreements of a place's two output bits with a received pair
 abbrev pub distanceAt : ℕ → Bool → Bool → ℕ
-distanceAt slot first second = differ (outputAt 0b101011 slot) first + differ (outputAt 0b111101 slot) second
+distanceAt place first second = differ (outputAt 0b101011 place) first + differ (outputAt 0b111101 place) second
 
 -- the first k places of a row hold the distances of a pair
 abbrev pub DistancesTo : Bool → Bool → List ℕ → ℕ → Type 0
-DistancesTo first second row k = (slot : ℕ) → slot < k → getD row slot 0 ≡ distanceAt slot first second
+DistancesTo first second row k = (place : ℕ) → place < k → getD row place 0 ≡ distanceAt place first second
 
 -- the first k rows are those of their pairs, the first bit worth two
 abbrev pub PairsTo : List (List ℕ) → ℕ → Type 0

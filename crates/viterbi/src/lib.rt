@@ -25,8 +25,8 @@ fn pair_row(p: &[u8; 64], q: &[u8; 64], first: u8, second: u8) -> [u16; 64]
     ensures { λ r. ⌜ DistancesTo (bit first) (bit second) r 64 ⌝ }
 {
     let mut row = [0u16; 64];
-    for slot in 0..64 {
-        row[slot] = (differs(p[slot], first) + differs(q[slot], second)) as u16;
+    for place in 0..64 {
+        row[place] = (differs(p[place], first) + differs(q[place], second)) as u16;
     }
     row
 }

@@ -1,4 +1,4 @@
--- `acelp_slots::age` meets its contract, mode by mode. Assumes nothing.
+-- `acelp_interleaver::age` meets its contract, mode by mode. Assumes nothing.
 use mathlib.Core.Path.{ap}
 use native.Mathlib.Omega.{arith}
 use Rattle.acelp_interleaver.specs.Wire.{ageOf}

@@ -1,4 +1,4 @@
--- `acelp_slots::gather` meets its contract: the bits passed hold what they carry. Assumes nothing.
+-- `acelp_interleaver::gather` meets its contract: the bits passed hold what they carry. Assumes nothing.
 use Prim.Native.Nat.{_-_}
 use native.Mathlib.Omega.{arith}
 use Rattle.bits.proofs.Filled.{filling-none, filling-more}

@@ -1,4 +1,4 @@
--- `acelp_slots::interleaver` meets its contract: the constant is the table of the standard, cell by cell. Assumes nothing.
+-- `acelp_interleaver::interleaver` meets its contract: the constant is the table of the standard, cell by cell. Assumes nothing.
 use mathlib.Core.Path.{refl}
 use Rattle.acelp_interleaver.specs.Wire.{table}
 use Rattle.acelp_interleaver.proofs.interleaver.Statement.{statement}

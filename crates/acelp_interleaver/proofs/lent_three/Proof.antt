@@ -1,4 +1,4 @@
--- `acelp_slots::lent_three` meets its contract: each length, then the symbols. Assumes nothing.
+-- `acelp_interleaver::lent_three` meets its contract: each length, then the symbols. Assumes nothing.
 use mathlib.Core.Path.{ap₂, _∙_}
 use Rattle.bits.specs.Refusals.{firstOf}
 use borrow.Author.Needs.{needs}

@@ -1,4 +1,4 @@
--- `acelp_slots::place` meets its contract. Assumes nothing.
+-- `acelp_interleaver::place` meets its contract. Assumes nothing.
 use native.Mathlib.Omega.{arith}
 use Rattle.acelp_interleaver.proofs.Passing.{table-rows, cell}
 use borrow.Author.Needs.{needs}

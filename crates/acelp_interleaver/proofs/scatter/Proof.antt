@@ -1,4 +1,4 @@
--- `acelp_slots::scatter` meets its contract: the places passed hold what carries them. Assumes nothing.
+-- `acelp_interleaver::scatter` meets its contract: the places passed hold what carries them. Assumes nothing.
 use mathlib.Core.Path.{refl}
 use Prim.Native.Nat.{_-_}
 use native.Mathlib.Omega.{arith}

@@ -1,4 +1,4 @@
--- `coding::checksum::checksum7_of_bits` meets its contract: the information is run from zero. Assumes nothing.
+-- `checksums::checksum7_of_bits` meets its contract: the information is run from zero. Assumes nothing.
 use native.Mathlib.Omega.{arith}
 use Rattle.checksums.proofs.Answers.{value7}
 use borrow.Author.Needs.{needs}

@@ -1,4 +1,4 @@
--- `coding::checksum::checksum_of_bits` meets its contract: the colour code and then the information are run from zero. Assumes nothing.
+-- `checksums::checksum_of_bits` meets its contract: the colour code and then the information are run from zero. Assumes nothing.
 use Rattle.checksums.proofs.Answers.{value16}
 use borrow.Author.Needs.{needs}
 use Rattle.checksums.proofs.checksum_of_bits.Statement.{statement}

@@ -1,4 +1,4 @@
--- `coding::checksum::four_in` meets its contract: four steps of the register. Assumes nothing.
+-- `checksums::four_in` meets its contract: four steps of the register. Assumes nothing.
 use native.Mathlib.Omega.{arith}
 use Rattle.checksums.proofs.Fours.{product-below, four-in}
 use borrow.Author.Needs.{needs}

@@ -1,4 +1,4 @@
--- `coding::checksum::four_of` meets its contract. Assumes nothing.
+-- `checksums::four_of` meets its contract. Assumes nothing.
 use native.Mathlib.Omega.{arith}
 use Rattle.checksums.proofs.Fours.{four-number}
 use borrow.Author.Needs.{needs}

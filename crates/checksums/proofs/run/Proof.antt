@@ -1,4 +1,4 @@
--- `coding::checksum::run` meets its contract: the bits left, into the register, end where all of them end. Assumes nothing.
+-- `checksums::run` meets its contract: the bits left, into the register, end where all of them end. Assumes nothing.
 use mathlib.Core.Path.{_≡_, refl}
 use Prim.Native.Nat.{_-_}
 use native.Mathlib.Omega.{arith}

@@ -1,4 +1,4 @@
--- `coding::checksum::run_by_fours` meets its contract: the bits left, into the register, end where all of them end. Assumes nothing.
+-- `checksums::run_by_fours` meets its contract: the bits left, into the register, end where all of them end. Assumes nothing.
 use Prim.Native.Nat.{_-_}
 use native.Mathlib.Omega.{arith}
 use lib.ListN.{length}

@@ -1,4 +1,4 @@
--- `coding::checksum::sent` meets its contract. Assumes nothing.
+-- `checksums::sent` meets its contract. Assumes nothing.
 use mathlib.Core.Path.{sym, ap}
 use Rattle.checksums.specs.Checksums.{complemented}
 use borrow.Author.Needs.{needs}

@@ -1,4 +1,4 @@
--- `coding::checksum::shifted_in` meets its contract: the two cases of the feedback. Assumes nothing.
+-- `checksums::shifted_in` meets its contract: the two cases of the feedback. Assumes nothing.
 use native.Mathlib.Omega.{arith}
 use native.Mathlib.Nat.{mod-lt}
 use Rattle.checksums.proofs.Shifting.{shifted-same, shifted-other}

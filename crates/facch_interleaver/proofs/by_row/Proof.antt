@@ -1,4 +1,4 @@
--- `facch_slots::by_row` meets its contract. Assumes nothing.
+-- `facch_interleaver::by_row` meets its contract. Assumes nothing.
 use borrow.Author.Tests.{eq-eqb, ne-eqb}
 use borrow.Author.Needs.{needs}
 use Rattle.facch_interleaver.proofs.by_row.Statement.{statement}

@@ -1,4 +1,4 @@
--- `facch_slots::column_three` meets its contract. Assumes nothing.
+-- `facch_interleaver::column_three` meets its contract. Assumes nothing.
 use Rattle.facch_interleaver.proofs.Columns.{column-three-start, column-three-end}
 use borrow.Author.Needs.{needs}
 use Rattle.facch_interleaver.proofs.column_three.Statement.{statement}

@@ -1,4 +1,4 @@
--- `facch_slots::deinterleave` meets its contract: a refusal, or the word. Assumes nothing.
+-- `facch_interleaver::deinterleave` meets its contract: a refusal, or the word. Assumes nothing.
 use Rattle.bits.proofs.Writing.{declined-end, done-end}
 use Rattle.interleaving.proofs.Answering.{two-fine}
 use borrow.Author.Needs.{needs}

@@ -1,4 +1,4 @@
--- `facch_slots::gather` meets its contract: the bits passed hold their places' bytes. Assumes nothing.
+-- `facch_interleaver::gather` meets its contract: the bits passed hold their places' bytes. Assumes nothing.
 use mathlib.Core.Path.{_≡_, refl, sym, _∙_}
 use Prim.Native.Nat.{_-_}
 use native.Mathlib.Omega.{arith}

@@ -1,4 +1,4 @@
--- `facch_slots::index` meets its contract: one way out for each rule of the table. Assumes nothing.
+-- `facch_interleaver::index` meets its contract: one way out for each rule of the table. Assumes nothing.
 use mathlib.Core.Path.{sym, ap, _∙_}
 use native.Mathlib.Omega.{arith}
 use Rattle.facch_interleaver.specs.Wire.{placeOf}

@@ -1,4 +1,4 @@
--- `facch_slots::interleave` meets its contract: a refusal, or the slot. Assumes nothing.
+-- `facch_interleaver::interleave` meets its contract: a refusal, or the slot. Assumes nothing.
 use Rattle.bits.proofs.Writing.{declined-end, done-end}
 use Rattle.interleaving.proofs.Answering.{two-fine}
 use borrow.Author.Needs.{needs}

@@ -1,4 +1,4 @@
--- `facch_slots::lent_one` meets its contract: each length, then the symbols. Assumes nothing.
+-- `facch_interleaver::lent_one` meets its contract: each length, then the symbols. Assumes nothing.
 use mathlib.Core.Path.{ap₂, _∙_}
 use Rattle.bits.specs.Refusals.{firstOf}
 use borrow.Author.Needs.{needs}

@@ -1,4 +1,4 @@
--- `facch_slots::observe_half` meets its contract: a refusal, or the half word. Assumes nothing.
+-- `facch_interleaver::observe_half` meets its contract: a refusal, or the half word. Assumes nothing.
 use Rattle.bits.proofs.Writing.{declined-end, done-end}
 use Rattle.facch_interleaver.proofs.Answering.{one-fine}
 use borrow.Author.Needs.{needs}

@@ -1,4 +1,4 @@
--- `facch_slots::parity_of` meets its contract, by the half. Assumes nothing.
+-- `facch_interleaver::parity_of` meets its contract, by the half. Assumes nothing.
 use borrow.Author.Needs.{needs}
 use Rattle.facch_interleaver.proofs.parity_of.Statement.{statement}
 use Rattle.facch_interleaver.proofs.parity_of.Tie as tie

@@ -1,4 +1,4 @@
--- `facch_slots::spread` meets its contract: the odd rows of one slot, then the even rows of the other. Assumes nothing.
+-- `facch_interleaver::spread` meets its contract: the odd rows of one slot, then the even rows of the other. Assumes nothing.
 use mathlib.Core.Path.{sym, _∙_}
 use native.Mathlib.Omega.{arith}
 use Rattle.facch_interleaver.proofs.Spreading.{both-halves}

@@ -1,4 +1,4 @@
--- `facch_slots::spread_half` meets its contract: twos, and then the rows of the half. Assumes nothing.
+-- `facch_interleaver::spread_half` meets its contract: twos, and then the rows of the half. Assumes nothing.
 use mathlib.Core.Path.{sym, _∙_}
 use Rattle.facch_interleaver.proofs.Spreading.{one-half, copied-twos}
 use borrow.Author.Needs.{needs}

@@ -1,4 +1,4 @@
--- `facch_slots::spread_row` meets its contract: the columns passed stand at their places. Assumes nothing.
+-- `facch_interleaver::spread_row` meets its contract: the columns passed stand at their places. Assumes nothing.
 use mathlib.Core.Path.{sym, _∙_}
 use Prim.Native.Nat.{_-_, _≤_}
 use native.Mathlib.Omega.{arith}

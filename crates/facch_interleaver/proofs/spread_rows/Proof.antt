@@ -1,4 +1,4 @@
--- `facch_slots::spread_rows` meets its contract: the rows passed stand at their places. Assumes nothing.
+-- `facch_interleaver::spread_rows` meets its contract: the rows passed stand at their places. Assumes nothing.
 use mathlib.Core.Path.{refl, sym, _∙_}
 use Prim.Native.Nat.{_-_, _≤_}
 use native.Mathlib.Omega.{arith}

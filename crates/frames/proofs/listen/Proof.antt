@@ -1,4 +1,4 @@
--- `listen` meets its contract: the session is that of the bytes read. Assumes nothing.
+-- `frames::listen` meets its contract: the session is that of the bytes read. Assumes nothing.
 use mathlib.Core.Path.{_≡_, ap}
 use Prim.Native.Nat.{ℕ, _-_}
 use native.Mathlib.Omega.{arith}

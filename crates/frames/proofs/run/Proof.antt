@@ -1,4 +1,4 @@
--- `run` meets its contract. Assumes nothing.
+-- `frames::run` meets its contract. Assumes nothing.
 use mathlib.Core.Path.{sym}
 use Prim.Native.Nat.{_-_}
 use lib.Seq.{length-take-le}

@@ -1,4 +1,4 @@
--- `take_turn` meets its contract: what was read is fed, and its answers stand at the start of the output buffer. Assumes nothing.
+-- `frames::take_turn` meets its contract: what was read is fed, and its answers stand at the start of the output buffer. Assumes nothing.
 use mathlib.Core.Path.{sym, _∙_}
 use Prim.Native.Nat.{_-_}
 use lib.Seq.{length-take-le}

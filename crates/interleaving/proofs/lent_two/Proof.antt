@@ -1,4 +1,4 @@
--- `slots::lent_two` meets its contract: each length, then the symbols. Assumes nothing.
+-- `interleaving::lent_two` meets its contract: each length, then the symbols. Assumes nothing.
 use mathlib.Core.Path.{ap₂, _∙_}
 use Rattle.bits.specs.Refusals.{firstOf}
 use borrow.Author.Needs.{needs}

@@ -1,4 +1,4 @@
--- `diagonal::aged` meets its contract: the places filled so far hold the ring's. Assumes nothing.
+-- `sacch_interleaver::aged` meets its contract: the places filled so far hold the ring's. Assumes nothing.
 use mathlib.Core.Path.{_≡_, refl}
 use Prim.Native.Nat.{ℕ, _+_, _-_, _%_}
 use native.Mathlib.Omega.{arith}

@@ -1,4 +1,4 @@
--- `diagonal::all_twelve` meets its contract: the numbers passed were tested. Assumes nothing.
+-- `sacch_interleaver::all_twelve` meets its contract: the numbers passed were tested. Assumes nothing.
 use mathlib.Core.Path.{_≡_, refl}
 use Prim.Native.Nat.{_-_}
 use native.Mathlib.Omega.{arith}

@@ -1,4 +1,4 @@
--- `diagonal::field_among` meets its contract: each place passed gave the bit of its weight. Assumes nothing.
+-- `sacch_interleaver::field_among` meets its contract: each place passed gave the bit of its weight. Assumes nothing.
 use mathlib.Core.Path.{refl}
 use Prim.Native.Nat.{ℕ, _+_, _-_, _%_}
 use native.Mathlib.Omega.{arith}

@@ -1,4 +1,4 @@
--- `diagonal::row_of` meets its contract: each place passed gave the bit of its weight. Assumes nothing.
+-- `sacch_interleaver::row_of` meets its contract: each place passed gave the bit of its weight. Assumes nothing.
 use mathlib.Core.Path.{refl}
 use Prim.Native.Nat.{ℕ, _+_, _-_, _%_}
 use native.Mathlib.Omega.{arith}

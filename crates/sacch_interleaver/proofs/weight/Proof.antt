@@ -1,4 +1,4 @@
--- `diagonal::weight` meets its contract: a test of the places and turns. Assumes nothing.
+-- `sacch_interleaver::weight` meets its contract: a test of the places and turns. Assumes nothing.
 use mathlib.Core.Bool.{Bool}
 use Prim.Native.Nat.{ℕ, _+_, _-_, _*_, _/_, _%_, _^_}
 use lib.Bits.{bitOr}

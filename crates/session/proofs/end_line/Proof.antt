@@ -1,4 +1,4 @@
--- `end_line` meets its contract: no line may be read, or the line is answered. Assumes nothing.
+-- `session::end_line` meets its contract: no line may be read, or the line is answered. Assumes nothing.
 use mathlib.Core.Path.{sym}
 use Prim.Native.Nat.{_-_}
 use native.Mathlib.Omega.{arith}

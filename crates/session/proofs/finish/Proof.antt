@@ -1,4 +1,4 @@
--- `finish` meets its contract: a last line, then the closing lines. Assumes nothing.
+-- `session::finish` meets its contract: a last line, then the closing lines. Assumes nothing.
 use Prim.Native.Nat.{_-_}
 use native.Mathlib.Omega.{arith}
 use Rattle.session.proofs.Ending.{finished}

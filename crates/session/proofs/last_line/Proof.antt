@@ -1,4 +1,4 @@
--- `last_line` meets its contract: none, or one that is ended. Assumes nothing.
+-- `session::last_line` meets its contract: none, or one that is ended. Assumes nothing.
 use Prim.Native.Nat.{_-_}
 use Rattle.session.proofs.Ending.{last-none, last-some}
 use borrow.Author.Needs.{needs}

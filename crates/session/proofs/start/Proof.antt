@@ -1,4 +1,4 @@
--- `start` meets its contract. Assumes nothing.
+-- `session::start` meets its contract. Assumes nothing.
 use mathlib.Core.Path.{ap}
 use Prim.Native.Nat.{_-_}
 use Rattle.session.specs.Output.{fresh}

@@ -1,4 +1,4 @@
--- `forward` meets its contract: after each step the path metrics and the predecessors are those of the recursion. Assumes nothing.
+-- `soft::forward` meets its contract: after each step the path metrics and the predecessors are those of the recursion. Assumes nothing.
 use mathlib.Core.Path.{refl}
 use Prim.Native.Nat.{_-_, _/_}
 use native.Mathlib.Omega.{arith}

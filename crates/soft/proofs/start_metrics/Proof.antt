@@ -1,4 +1,4 @@
--- `start_metrics` meets its contract. Assumes nothing.
+-- `soft::start_metrics` meets its contract. Assumes nothing.
 use mathlib.Core.Path.{ap}
 use mathlib.Core.List.{_∷_}
 use lib.ListN.{replicate}

@@ -1,4 +1,4 @@
--- `traceback` meets its contract: the bits of the steps passed, read from the end. Assumes nothing.
+-- `soft::traceback` meets its contract: the bits of the steps passed, read from the end. Assumes nothing.
 use native.Mathlib.Omega.{arith}
 use Rattle.soft.specs.Step.{rowsAt}
 use Rattle.soft.proofs.Tracing.{Tracing, tracing-none, tracing-more, tracing-done}

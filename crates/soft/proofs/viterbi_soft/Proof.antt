@@ -1,4 +1,4 @@
--- `viterbi_soft` meets its contract: the decided predecessors lead back along the survivor, whose word is the Rust's and the nearest. Assumes nothing.
+-- `soft::viterbi_soft` meets its contract: the decided predecessors lead back along the survivor, whose word is the Rust's and the nearest. Assumes nothing.
 use mathlib.Core.Path.{_≡_, refl, _∙_, subst}
 use mathlib.Core.List.{List}
 use Prim.Native.Nat.{ℕ, _*_, _/_}

@@ -1,4 +1,4 @@
--- `speech_slots::carry` meets its contract: the pairs of rows passed are written. Assumes nothing.
+-- `speech_interleaver::carry` meets its contract: the pairs of rows passed are written. Assumes nothing.
 use mathlib.Core.Path.{refl, sym, _∙_}
 use Prim.Native.Nat.{_-_, _/_}
 use native.Mathlib.Omega.{arith}

@@ -1,4 +1,4 @@
--- `speech_slots::deinterleave` meets its contract: a refusal, or the frame. Assumes nothing.
+-- `speech_interleaver::deinterleave` meets its contract: a refusal, or the frame. Assumes nothing.
 use Rattle.bits.proofs.Writing.{declined-end, done-end}
 use Rattle.interleaving.proofs.Answering.{two-fine}
 use borrow.Author.Needs.{needs}

@@ -1,4 +1,4 @@
--- `speech_slots::interleave` meets its contract: a refusal, or the slot. Assumes nothing.
+-- `speech_interleaver::interleave` meets its contract: a refusal, or the slot. Assumes nothing.
 use Rattle.bits.proofs.Writing.{declined-end, done-end}
 use Rattle.interleaving.proofs.Answering.{two-fine}
 use borrow.Author.Needs.{needs}

@@ -1,4 +1,4 @@
--- `bit_of` meets its contract: by the byte. Assumes nothing.
+-- `text::bit_of` meets its contract: by the byte. Assumes nothing.
 use Rattle.text.proofs.Reading.{bit-zero, bit-one, bit-none}
 use Rattle.text.proofs.bit_of.Statement.{statement}
 use Rattle.text.proofs.bit_of.Tie as tie

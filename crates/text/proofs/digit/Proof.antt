@@ -1,4 +1,4 @@
--- `digit` meets its contract: by where the byte lies. Assumes nothing.
+-- `text::digit` meets its contract: by where the byte lies. Assumes nothing.
 use Rattle.text.proofs.Reading.{digit-1, digit-2, digit-3, digit-4, digit-5}
 use borrow.Author.Needs.{needs}
 use Rattle.text.proofs.digit.Statement.{statement}

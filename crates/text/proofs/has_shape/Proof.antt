@@ -1,4 +1,4 @@
--- `has_shape` meets its contract: the places passed fit. Assumes nothing.
+-- `text::has_shape` meets its contract: the places passed fit. Assumes nothing.
 use mathlib.Core.Path.{_≡_, refl}
 use Prim.Native.Nat.{_-_}
 use native.Mathlib.Omega.{arith}

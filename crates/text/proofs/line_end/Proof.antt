@@ -1,4 +1,4 @@
--- `line_end` meets its contract: no byte passed is LF. Assumes nothing.
+-- `text::line_end` meets its contract: no byte passed is LF. Assumes nothing.
 use mathlib.Core.Path.{_≡_, refl}
 use Prim.Native.Nat.{ℕ, _-_, _≤_, _<_}
 use native.Mathlib.Omega.{arith}

@@ -1,4 +1,4 @@
--- `read_bits` meets its contract: the bits passed are those of the text. Assumes nothing.
+-- `text::read_bits` meets its contract: the bits passed are those of the text. Assumes nothing.
 use mathlib.Core.Path.{_≡_, refl, sym, _∙_}
 use Prim.Native.Nat.{_-_}
 use native.Mathlib.Omega.{arith}

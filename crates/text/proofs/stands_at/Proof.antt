@@ -1,4 +1,4 @@
--- `stands_at` meets its contract: by whether the shape asks for a digit. Assumes nothing.
+-- `text::stands_at` meets its contract: by whether the shape asks for a digit. Assumes nothing.
 use Rattle.text.proofs.Reading.{stands-digit, stands-same}
 use borrow.Author.Needs.{needs}
 use Rattle.text.proofs.stands_at.Statement.{statement}

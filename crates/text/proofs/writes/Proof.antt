@@ -1,4 +1,4 @@
--- `writes` meets its contract: the bits passed are those of the text. Assumes nothing.
+-- `text::writes` meets its contract: the bits passed are those of the text. Assumes nothing.
 use mathlib.Core.Path.{_≡_, refl, sym, _∙_}
 use mathlib.Core.Bool.{false≢true}
 use Prim.Native.Nat.{ℕ, _-_, _≤_, _<_}

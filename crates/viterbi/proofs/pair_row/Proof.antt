@@ -10,10 +10,10 @@ use Rattle.viterbi.proofs.pair_row.Statement.{statement}
 use Rattle.viterbi.proofs.pair_row.Tie as tie
 
 abbrev Inv-loop : tie.InvT-loop
-Inv-loop p q first second row₀ slot₀ row slot = Filling (λ i x. x ≡ distanceAt i (bit first) (bit second)) 0 64 row slot
+Inv-loop p q first second row₀ place₀ row place = Filling (λ i x. x ≡ distanceAt i (bit first) (bit second)) 0 64 row place
 
 abbrev μ-loop : tie.MeasureT-loop
-μ-loop p q first second row₀ slot₀ row slot = 64 - slot
+μ-loop p q first second row₀ place₀ row place = 64 - place
 
 loop-holds : tie.Need-loop-holds Inv-loop μ-loop
 loop-holds c = filling-none refl
@@ -42,21 +42,21 @@ mul-row c = omega arith
 array-write-row : tie.Need-array-write-row Inv-loop μ-loop
 array-write-row c = omega (arith, c .before .before .before .before .before .loop .inv .size)
 
-add-slot : tie.Need-add-slot Inv-loop μ-loop
-add-slot c = omega arith
+add-place : tie.Need-add-place Inv-loop μ-loop
+add-place c = omega arith
 
 loop-less : tie.Need-loop-less Inv-loop μ-loop
 loop-less c = omega arith
 
 loop-again : tie.Need-loop-again Inv-loop μ-loop
 loop-again c =
-    let slot = c .before .before .before .before .before .loop .slot in
+    let place = c .before .before .before .before .before .loop .place in
     let pre = c .before .before .before .before .before .before .pre in
     filling-more (c .before .before .before .before .before .loop .inv) _ (omega arith)
     (omega (
       arith,
-      place-cost differ _ slot _ _ _ (pre .2 slot (omega arith)) (c .before .before .differs .ensures .0),
-      place-cost differ _ slot _ _ _ (pre .3 slot (omega arith)) (c .differs2 .ensures .0),
+      place-cost differ _ place _ _ _ (pre .2 place (omega arith)) (c .before .before .differs .ensures .0),
+      place-cost differ _ place _ _ _ (pre .3 place (omega arith)) (c .differs2 .ensures .0),
     ))
 
 returns : tie.Need-returns Inv-loop μ-loop
@@ -77,7 +77,7 @@ pair-row-spec =
     cast-row
     mul-row
     array-write-row
-    add-slot
+    add-place
     loop-less
     loop-again
     returns)

@@ -1,4 +1,4 @@
--- `corners::checksums::count_values` ends. Assumes nothing.
+-- `corners::sums::count_values` ends. Assumes nothing.
 use Prim.Native.Nat.{_-_, _≤_}
 use native.Mathlib.Omega.{arith}
 use borrow.Author.Needs.{needs}

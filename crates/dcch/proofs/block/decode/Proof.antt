@@ -1,4 +1,4 @@
--- `dcch_block::decode` meets its contract: a refusal, or the end of the decoding of the nearest word. Assumes nothing.
+-- `dcch::block::decode` meets its contract: a refusal, or the end of the decoding of the nearest word. Assumes nothing.
 use native.Mathlib.Omega.{arith}
 use lib.ListN.{length}
 use Rattle.bits.proofs.LentPart.{part-length, whole-length}

@@ -1,4 +1,4 @@
--- `dcch_block::encode` meets its contract: a refusal, or the interleaved cells. Assumes nothing.
+-- `dcch::block::encode` meets its contract: a refusal, or the interleaved cells. Assumes nothing.
 use native.Mathlib.Omega.{arith}
 use lib.ListN.{length}
 use Rattle.bits.proofs.LentPart.{part-length, whole-length}

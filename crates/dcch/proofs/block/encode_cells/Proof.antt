@@ -1,4 +1,4 @@
--- `dcch_block::encode_cells` meets its contract: the inputs are filled, and coded from state 0. Assumes nothing.
+-- `dcch::block::encode_cells` meets its contract: the inputs are filled, and coded from state 0. Assumes nothing.
 use native.Mathlib.Omega.{arith}
 use lib.ListN.{length}
 use Rattle.bits.proofs.LentPart.{part-length, whole-length}

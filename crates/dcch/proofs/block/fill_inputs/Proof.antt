@@ -1,4 +1,4 @@
--- `dcch_block::fill_inputs` meets its contract: the information is copied, and the checksum unpacked after it. Assumes nothing.
+-- `dcch::block::fill_inputs` meets its contract: the information is copied, and the checksum unpacked after it. Assumes nothing.
 use native.Mathlib.Omega.{arith}
 use lib.ListN.{length, length-replicate}
 use mathlib.Core.Path.{ap}

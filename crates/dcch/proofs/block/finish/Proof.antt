@@ -1,4 +1,4 @@
--- `dcch_block::finish` meets its contract: the checksum after the information decides. Assumes nothing.
+-- `dcch::block::finish` meets its contract: the checksum after the information decides. Assumes nothing.
 use native.Mathlib.Omega.{arith}
 use lib.ListN.{length}
 use lib.Seq.{length-take-le}

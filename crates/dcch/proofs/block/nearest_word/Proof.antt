@@ -1,4 +1,4 @@
--- `dcch_block::nearest_word` meets its contract: the cells of the block are searched. Assumes nothing.
+-- `dcch::block::nearest_word` meets its contract: the cells of the block are searched. Assumes nothing.
 use native.Mathlib.Omega.{arith}
 use lib.ListN.{length}
 use mathlib.Core.Path.{sym, _∙_}

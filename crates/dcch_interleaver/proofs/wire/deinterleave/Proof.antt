@@ -1,4 +1,4 @@
--- `dcch_wire::wire::deinterleave` meets its contract: the cells of the wires passed hold the wires' bytes.
+-- `dcch_interleaver::wire::deinterleave` meets its contract: the cells of the wires passed hold the wires' bytes.
 -- The loop knows its format by the rows and the length alone. Assumes nothing.
 use mathlib.Core.Path.{_≡_, refl, sym, _∙_}
 use Prim.Native.Nat.{_-_}

@@ -1,4 +1,4 @@
--- `dcch_wire::wire::deinterleave_soft` meets its contract: the cells of the wires passed hold the wires' reliabilities.
+-- `dcch_interleaver::wire::deinterleave_soft` meets its contract: the cells of the wires passed hold the wires' reliabilities.
 -- The loop knows its format by the rows and the length alone. Assumes nothing.
 use mathlib.Core.Path.{_≡_, refl, sym, _∙_}
 use Prim.Native.Nat.{_-_}

@@ -1,4 +1,4 @@
--- `dcch_wire::wire::interleave` meets its contract: the wires passed hold their cells' bytes.
+-- `dcch_interleaver::wire::interleave` meets its contract: the wires passed hold their cells' bytes.
 -- The loop knows its format by the rows and the length alone. Assumes nothing.
 use mathlib.Core.Path.{_≡_, refl, sym, _∙_}
 use Prim.Native.Nat.{_-_}

@@ -1,4 +1,4 @@
--- `dcch_wire::wire::next_cell` meets its contract: one way out for each case of the rule. Assumes nothing.
+-- `dcch_interleaver::wire::next_cell` meets its contract: one way out for each case of the rule. Assumes nothing.
 use native.Mathlib.Omega.{arith}
 use native.Mathlib.Nat.{mod-lt}
 use borrow.Author.Tests.{lt-ltb, le-ltb}

@@ -1,4 +1,4 @@
--- `all_erasable` meets its contract: the bytes passed were tested. Assumes nothing.
+-- `facch::received::all_erasable` meets its contract: the bytes passed were tested. Assumes nothing.
 use mathlib.Core.Path.{_≡_, refl}
 use Prim.Native.Nat.{_-_}
 use native.Mathlib.Omega.{arith}

@@ -1,4 +1,4 @@
--- `facch_received::count_observed` meets its contract: so many of the bytes passed are observed. Assumes nothing.
+-- `facch::received::count_observed` meets its contract: so many of the bytes passed are observed. Assumes nothing.
 use Prim.Native.Nat.{_-_}
 use native.Mathlib.Omega.{arith}
 use mathlib.Core.Path.{_≡_, refl}

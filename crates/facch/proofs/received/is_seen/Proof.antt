@@ -1,4 +1,4 @@
--- `facch_received::is_seen` meets its contract. Assumes nothing.
+-- `facch::received::is_seen` meets its contract. Assumes nothing.
 use native.Mathlib.Omega.{arith}
 use Rattle.facch.proofs.Receiving.{not-seen, is-one}
 use Rattle.facch.proofs.received.is_seen.Statement.{statement}

@@ -1,4 +1,4 @@
--- `facch_received::lent_erased` meets its contract: the length, then the symbols. Assumes nothing.
+-- `facch::received::lent_erased` meets its contract: the length, then the symbols. Assumes nothing.
 use mathlib.Core.Path.{ap₂, _∙_}
 use Rattle.bits.specs.Refusals.{firstOf}
 use borrow.Author.Needs.{needs}

@@ -1,4 +1,4 @@
--- `facch_received::only_erasable` meets its contract. Assumes nothing.
+-- `facch::received::only_erasable` meets its contract. Assumes nothing.
 use mathlib.Core.Path.{sym, ap, _∙_}
 use mathlib.Core.Bool.{Bool, cond}
 use Rattle.bits.specs.declared.Lent.the-variants.{Fine, Refused}

@@ -1,4 +1,4 @@
--- `facch_search::nearest_word` meets its contract: the word of the inputs that the search finds. Assumes nothing.
+-- `facch::search::nearest_word` meets its contract: the word of the inputs that the search finds. Assumes nothing.
 use Rattle.facch.proofs.Turned.{searched}
 use borrow.Author.Needs.{needs}
 use Rattle.facch.proofs.search.nearest_word.Statement.{statement}

@@ -1,4 +1,4 @@
--- `facch_search::rotate` meets its contract: the last five inputs and the first sixty, copied. Assumes nothing.
+-- `facch::search::rotate` meets its contract: the last five inputs and the first sixty, copied. Assumes nothing.
 use Rattle.facch.proofs.Rotating.{sixty, asks-rest, rotated}
 use borrow.Author.Needs.{needs}
 use Rattle.facch.proofs.search.rotate.Statement.{statement}

@@ -1,4 +1,4 @@
--- `facch_word::encode` meets its contract: a refusal, or the coded bits of the word. Assumes nothing.
+-- `facch::word::encode` meets its contract: a refusal, or the coded bits of the word. Assumes nothing.
 use mathlib.Core.List.{[]}
 use Rattle.bits.proofs.Binary.{binary-bytes}
 use Rattle.bits.proofs.Writing.{declined-end, done-end}

@@ -1,4 +1,4 @@
--- `facch_word::encode_word` meets its contract: two runs, the second from the memory that the first leaves. Assumes nothing.
+-- `facch::word::encode_word` meets its contract: two runs, the second from the memory that the first leaves. Assumes nothing.
 use native.Mathlib.Omega.{arith}
 use Rattle.facch.proofs.Biting.{first-part, five-bits, asks-rest, asks-first, bitten}
 use borrow.Author.Needs.{needs}

@@ -1,4 +1,4 @@
--- `facch_word::lent_encode` meets its contract: the length, then the message. Assumes nothing.
+-- `facch::word::lent_encode` meets its contract: the length, then the message. Assumes nothing.
 use mathlib.Core.Path.{ap₂, _∙_}
 use Rattle.bits.specs.Refusals.{firstOf}
 use borrow.Author.Needs.{needs}

@@ -1,4 +1,4 @@
--- `facch_word::start_memory` meets its contract. Assumes nothing.
+-- `facch::word::start_memory` meets its contract. Assumes nothing.
 use Rattle.facch.proofs.Biting.{starts}
 use borrow.Author.Needs.{needs}
 use Rattle.facch.proofs.word.start_memory.Statement.{statement}

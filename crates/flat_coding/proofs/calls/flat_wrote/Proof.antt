@@ -1,4 +1,4 @@
--- `flat_calls::flat_wrote` meets its contract, by the cases of the answer. Assumes nothing.
+-- `flat_coding::calls::flat_wrote` meets its contract, by the cases of the answer. Assumes nothing.
 use mathlib.Core.Path.{sym, ap, _∙_}
 use Rattle.flat_coding.proofs.Carried.{refused-written}
 use Rattle.bits.specs.Calls.{wroteAnswer}

@@ -1,4 +1,4 @@
--- `flat_viterbi::no_search` meets its contract. Assumes nothing.
+-- `flat_coding::search::no_search` meets its contract. Assumes nothing.
 use Rattle.flat_coding.proofs.Searches.{refused-search}
 use borrow.Author.Needs.{needs}
 use Rattle.flat_coding.proofs.search.no_search.Statement.{statement}

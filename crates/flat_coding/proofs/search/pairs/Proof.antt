@@ -1,4 +1,4 @@
--- `flat_viterbi::pairs` meets its contract: a way out for each test of the definition. Assumes nothing.
+-- `flat_coding::search::pairs` meets its contract: a way out for each test of the definition. Assumes nothing.
 use native.Mathlib.Omega.{arith}
 use mathlib.Core.Path.{_∙_}
 use Rattle.flat_coding.proofs.Searches.{too-short, too-long, unpaired, paired}

@@ -1,4 +1,4 @@
--- `flat_viterbi::search_refusal` meets its contract: the block's length, the word's, then the symbols. Assumes nothing.
+-- `flat_coding::search::search_refusal` meets its contract: the block's length, the word's, then the symbols. Assumes nothing.
 use mathlib.Core.Path.{ap₂, _∙_}
 use Rattle.bits.specs.Refusals.{firstOf}
 use borrow.Author.Needs.{needs}

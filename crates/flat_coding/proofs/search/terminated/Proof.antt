@@ -1,4 +1,4 @@
--- `flat_viterbi::terminated` meets its contract: a refusal, or what the search finds. Assumes nothing.
+-- `flat_coding::search::terminated` meets its contract: a refusal, or what the search finds. Assumes nothing.
 use native.Mathlib.Omega.{arith}
 use mathlib.Core.Path.{sym, _∙_}
 use Rattle.flat_coding.proofs.Searches.{fine, by-refusal, by-search}

@@ -1,4 +1,4 @@
--- `is_blank` meets its contract: the characters passed are spaces. Assumes nothing.
+-- `lines::command::is_blank` meets its contract: the characters passed are spaces. Assumes nothing.
 use mathlib.Core.Path.{_≡_, refl}
 use Prim.Native.Nat.{_-_}
 use native.Mathlib.Omega.{arith}

@@ -1,4 +1,4 @@
--- `is_discontinuity` meets its contract. Assumes nothing.
+-- `lines::command::is_discontinuity` meets its contract. Assumes nothing.
 use Prim.Native.Nat.{_-_}
 use Rattle.lines.specs.Commands.{discontinuityShape}
 use borrow.Author.Needs.{needs}

@@ -1,4 +1,4 @@
--- `is_facch` meets its contract. Assumes nothing.
+-- `lines::command::is_facch` meets its contract. Assumes nothing.
 use Prim.Native.Nat.{_-_}
 use Rattle.lines.specs.Commands.{facchShape}
 use borrow.Author.Needs.{needs}

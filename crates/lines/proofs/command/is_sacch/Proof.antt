@@ -1,4 +1,4 @@
--- `is_sacch` meets its contract. Assumes nothing.
+-- `lines::command::is_sacch` meets its contract. Assumes nothing.
 use Prim.Native.Nat.{_-_}
 use Rattle.lines.specs.Commands.{sacchShape}
 use borrow.Author.Needs.{needs}

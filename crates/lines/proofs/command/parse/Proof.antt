@@ -1,4 +1,4 @@
--- `parse` meets its contract: one law for each way out. Assumes nothing.
+-- `lines::command::parse` meets its contract: one law for each way out. Assumes nothing.
 use mathlib.Core.Path.{_∙_}
 use Prim.Native.Nat.{_-_}
 use Rattle.lines.proofs.Forms.{told, sacch-line, facch-line, parsed-long, parsed-blank, parsed-sacch, parsed-discontinuity, parsed-facch, parsed-unknown}

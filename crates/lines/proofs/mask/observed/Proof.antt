@@ -1,4 +1,4 @@
--- `observed` meets its contract. Assumes nothing.
+-- `lines::mask::observed` meets its contract. Assumes nothing.
 use Prim.Native.Nat.{_-_}
 use Rattle.lines.proofs.Masking.{observed-bit, unobserved-bit}
 use Rattle.lines.proofs.mask.observed.Statement.{statement}

@@ -1,4 +1,4 @@
--- `observed_bits` meets its contract. Assumes nothing.
+-- `lines::mask::observed_bits` meets its contract. Assumes nothing.
 use Prim.Native.Nat.{_-_}
 use Rattle.lines.specs.Masked.{observedBits}
 use borrow.Author.Needs.{needs}

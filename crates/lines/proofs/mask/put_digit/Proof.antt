@@ -1,4 +1,4 @@
--- `put_digit` meets its contract: the four bits of the digit stand at their places. Assumes nothing.
+-- `lines::mask::put_digit` meets its contract: the four bits of the digit stand at their places. Assumes nothing.
 use mathlib.Core.Path.{refl}
 use Prim.Native.Nat.{_-_}
 use native.Mathlib.Omega.{arith}

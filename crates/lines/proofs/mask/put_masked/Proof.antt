@@ -1,4 +1,4 @@
--- `put_masked` meets its contract: the bits of the digits passed are written. Assumes nothing.
+-- `lines::mask::put_masked` meets its contract: the bits of the digits passed are written. Assumes nothing.
 use mathlib.Core.Path.{_≡_, refl, _∙_}
 use Prim.Native.Nat.{_-_}
 use native.Mathlib.Omega.{arith}

@@ -1,4 +1,4 @@
--- `put_content` meets its contract. Assumes nothing.
+-- `lines::reply::put_content` meets its contract. Assumes nothing.
 use Prim.Native.Nat.{_-_}
 use Rattle.lines.proofs.Lettered.{content-put}
 use borrow.Author.Needs.{needs}

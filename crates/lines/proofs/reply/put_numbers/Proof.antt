@@ -1,4 +1,4 @@
--- `put_numbers` meets its contract. Assumes nothing.
+-- `lines::reply::put_numbers` meets its contract. Assumes nothing.
 use Prim.Native.Nat.{_-_}
 use Rattle.text.proofs.Stored.{put-then}
 use borrow.Author.Needs.{needs}

@@ -1,4 +1,4 @@
--- `put_refusal` meets its contract. Assumes nothing.
+-- `lines::reply::put_refusal` meets its contract. Assumes nothing.
 use Prim.Native.Nat.{_-_}
 use Rattle.lines.proofs.Lettered.{refusal-put}
 use borrow.Author.Needs.{needs}

@@ -1,4 +1,4 @@
--- `put_reply` meets its contract: one line for each kind of answer. Assumes nothing.
+-- `lines::reply::put_reply` meets its contract: one line for each kind of answer. Assumes nothing.
 use Prim.Native.Nat.{_-_}
 use Rattle.lines.specs.Printing.{replyText}
 use Rattle.text.proofs.Stored.{put-nothing}

@@ -1,4 +1,4 @@
--- `SacchReceiver::push_outcome` meets its contract: a walk of its MIR, by hand. The borrow is opened, the record is copied out, `pushed` is called on the copy,
+-- `sacch_receiver::SacchReceiver::push_outcome` meets its contract: a walk of its MIR, by hand. The borrow is opened, the record is copied out, `pushed` is called on the copy,
 -- its receiver is stored back whole, the borrow is closed at it, and its outcome is returned.
 -- Assumes nothing.
 use mathlib.Core.Path.{_≡_, refl, ap, subst}

@@ -1,4 +1,4 @@
--- `searches::between::nearest_between` meets its contract: the survivor into `to` is the first of the nearest words. Assumes nothing.
+-- `search::between::nearest_between` meets its contract: the survivor into `to` is the first of the nearest words. Assumes nothing.
 use native.Mathlib.Omega.{arith}
 use Rattle.search.proofs.Finding.{start-le, found}
 use borrow.Author.Needs.{needs}

@@ -1,4 +1,4 @@
--- `butterflies::advance` meets its contract: the butterflies passed fill two states each. Assumes nothing.
+-- `search::butterfly::advance` meets its contract: the butterflies passed fill two states each. Assumes nothing.
 use Rattle.search.proofs.Butterflies.{Filled, filled-more, filled-all}
 use Rattle.search.proofs.butterfly.advance.Statement.{statement}
 use native.Mathlib.Nat.{not-suc-le-zero}

@@ -1,4 +1,4 @@
--- `survivors::forward` meets its contract: after each step the metrics and the predecessor bytes are those of the recursion. Assumes nothing.
+-- `search::forward::forward` meets its contract: after each step the metrics and the predecessor bytes are those of the recursion. Assumes nothing.
 use mathlib.Core.Path.{_≡_, refl}
 use Prim.Native.Nat.{_-_, _≤_}
 use native.Mathlib.Omega.{arith}

@@ -1,4 +1,4 @@
--- `searches::free::lower` meets its contract: less, more or the same. Assumes nothing.
+-- `search::free::lower` meets its contract: less, more or the same. Assumes nothing.
 use borrow.Author.Needs.{needs}
 use Rattle.search.proofs.Ends.{less, more, even}
 use Rattle.search.proofs.free.lower.Statement.{statement}

@@ -1,4 +1,4 @@
--- `searches::free::lowest_end` meets its contract: the lowest of the ends passed. Assumes nothing.
+-- `search::free::lowest_end` meets its contract: the lowest of the ends passed. Assumes nothing.
 use native.Mathlib.Omega.{arith}
 use Prim.Native.Nat.{ℕ, _+_, _≤_, _-_}
 use mathlib.Core.Path.{_≡_, refl, sym, subst}

@@ -1,4 +1,4 @@
--- `searches::free::nearest_free` meets its contract: the survivor into a lowest end is a nearest word. Assumes nothing.
+-- `search::free::nearest_free` meets its contract: the survivor into a lowest end is a nearest word. Assumes nothing.
 use native.Mathlib.Omega.{arith}
 use Rattle.search.specs.Forward.{branchBy}
 use Rattle.search.proofs.Deciding.{zeros-start, decides}

@@ -1,4 +1,4 @@
--- `places::outputs` meets its contract: the places passed hold the output bits. Assumes nothing.
+-- `search::row::outputs` meets its contract: the places passed hold the output bits. Assumes nothing.
 use mathlib.Core.Path.{_≡_, refl}
 use Prim.Native.Nat.{_-_}
 use native.Mathlib.Omega.{arith}
@@ -10,10 +10,10 @@ use Rattle.search.proofs.row.outputs.Statement.{statement}
 use Rattle.search.proofs.row.outputs.Tie as tie
 
 abbrev Inv-loop : tie.InvT-loop
-Inv-loop taps output₀ slot₀ output slot = Filling (λ i x. x ≡ byte (outputAt taps i)) 0 64 output slot
+Inv-loop taps output₀ place₀ output place = Filling (λ i x. x ≡ byte (outputAt taps i)) 0 64 output place
 
 abbrev μ-loop : tie.MeasureT-loop
-μ-loop taps output₀ slot₀ output slot = 64 - slot
+μ-loop taps output₀ place₀ output place = 64 - place
 
 loop-holds : tie.Need-loop-holds Inv-loop μ-loop
 loop-holds c = filling-none refl
@@ -30,8 +30,8 @@ cast-output c = omega arith
 array-write-output : tie.Need-array-write-output Inv-loop μ-loop
 array-write-output c = omega (arith, c .before .before .before .loop .inv .size)
 
-add-slot : tie.Need-add-slot Inv-loop μ-loop
-add-slot c = omega arith
+add-place : tie.Need-add-place Inv-loop μ-loop
+add-place c = omega arith
 
 loop-less : tie.Need-loop-less Inv-loop μ-loop
 loop-less c = omega arith
@@ -53,7 +53,7 @@ outputs-spec =
     parity-requires
     cast-output
     array-write-output
-    add-slot
+    add-place
     loop-less
     loop-again
     returns)

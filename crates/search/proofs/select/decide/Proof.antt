@@ -1,4 +1,4 @@
--- `candidates::decide` meets its contract. Assumes nothing.
+-- `search::select::decide` meets its contract. Assumes nothing.
 use Rattle.search.proofs.Selecting.{decide-upper, decide-lower}
 use Rattle.search.proofs.select.decide.Statement.{statement}
 use borrow.Author.Needs.{needs}

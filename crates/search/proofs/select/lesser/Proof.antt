@@ -1,4 +1,4 @@
--- `candidates::lesser` meets its contract. Assumes nothing.
+-- `search::select::lesser` meets its contract. Assumes nothing.
 use borrow.Author.Needs.{needs}
 use Rattle.search.proofs.Selecting.{lesser-upper, lesser-lower}
 use Rattle.search.proofs.select.lesser.Statement.{statement}

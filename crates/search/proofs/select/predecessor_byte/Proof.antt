@@ -1,4 +1,4 @@
--- `candidates::predecessor_byte` meets its contract: a predecessor, 16 and 96 stay below 256. Assumes nothing.
+-- `search::select::predecessor_byte` meets its contract: a predecessor, 16 and 96 stay below 256. Assumes nothing.
 use Rattle.search.proofs.Selecting.{decide-le, mark-le}
 use Rattle.search.proofs.select.predecessor_byte.Statement.{statement}
 use native.Mathlib.Omega.{arith}

@@ -1,4 +1,4 @@
--- `candidates::tie_mark` meets its contract. Assumes nothing.
+-- `search::select::tie_mark` meets its contract. Assumes nothing.
 use Rattle.search.proofs.Selecting.{mark-set, mark-none}
 use Rattle.search.proofs.select.tie_mark.Statement.{statement}
 use Rattle.search.proofs.select.tie_mark.Tie as tie

@@ -1,4 +1,4 @@
--- `feed` meets its contract: the bytes passed are fed. Assumes nothing.
+-- `session::pieces::feed` meets its contract: the bytes passed are fed. Assumes nothing.
 use Prim.Native.Nat.{_-_}
 use native.Mathlib.Omega.{arith}
 use lib.ListN.{length}

@@ -1,4 +1,4 @@
--- `feed_part` meets its contract: the bytes are kept, and the line is ended where its LF is there. Assumes nothing.
+-- `session::pieces::feed_part` meets its contract: the bytes are kept, and the line is ended where its LF is there. Assumes nothing.
 use Prim.Native.Nat.{_-_}
 use native.Mathlib.Omega.{arith}
 use Rattle.session.proofs.Stepped.{kept-sound, part-waits, part-ends}

@@ -1,4 +1,4 @@
--- `keep` meets its contract: the bytes passed stand behind those kept before. Assumes nothing.
+-- `session::pieces::keep` meets its contract: the bytes passed stand behind those kept before. Assumes nothing.
 use Prim.Native.Nat.{_-_}
 use native.Mathlib.Omega.{arith}
 use Rattle.session.proofs.Gathered.{Keeping, keeping-none, keeping-room, keeping-more, keeping-done}

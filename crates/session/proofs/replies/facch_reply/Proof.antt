@@ -1,4 +1,4 @@
--- `facch_reply` meets its contract: one line for each kind of answer. Assumes nothing.
+-- `session::replies::facch_reply` meets its contract: one line for each kind of answer. Assumes nothing.
 use mathlib.Core.Path.{sym, ap}
 use Prim.Native.Nat.{_-_}
 use Rattle.session.specs.Replies.{facchReply}

@@ -1,4 +1,4 @@
--- `reply_to` meets its contract: one law for each command. Assumes nothing.
+-- `session::replies::reply_to` meets its contract: one law for each command. Assumes nothing.
 use mathlib.Core.Path.{sym, _∙_}
 use Prim.Native.Nat.{_-_}
 use Rattle.lines.proofs.Forms.{facch-long}

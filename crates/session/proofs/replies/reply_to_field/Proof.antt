@@ -1,4 +1,4 @@
--- `reply_to_field` meets its contract: the receiver's answer, and the receiver after it. Assumes nothing.
+-- `session::replies::reply_to_field` meets its contract: the receiver's answer, and the receiver after it. Assumes nothing.
 use Prim.Native.Nat.{_-_}
 use Rattle.session.proofs.Replying.{field-replied}
 use borrow.Author.Needs.{needs}

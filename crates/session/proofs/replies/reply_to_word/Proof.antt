@@ -1,4 +1,4 @@
--- `reply_to_word` meets its contract: the bits of the line are lent to the decoder, which refuses none of them. Assumes nothing.
+-- `session::replies::reply_to_word` meets its contract: the bits of the line are lent to the decoder, which refuses none of them. Assumes nothing.
 use Prim.Native.Nat.{_-_}
 use Rattle.session.proofs.Replying.{facch-replied}
 use borrow.Author.Needs.{needs}

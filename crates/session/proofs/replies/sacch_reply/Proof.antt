@@ -1,4 +1,4 @@
--- `sacch_reply` meets its contract: one line for each kind of answer. Assumes nothing.
+-- `session::replies::sacch_reply` meets its contract: one line for each kind of answer. Assumes nothing.
 use mathlib.Core.Path.{sym, ap}
 use Prim.Native.Nat.{_-_}
 use Rattle.session.specs.Replies.{sacchReply}

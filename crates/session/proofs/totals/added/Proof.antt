@@ -1,4 +1,4 @@
--- `added` meets its contract: one line for each kind of answer. Assumes nothing.
+-- `session::totals::added` meets its contract: one line for each kind of answer. Assumes nothing.
 use mathlib.Core.Path.{sym, ap, _∙_}
 use Prim.Native.Nat.{_-_}
 use Rattle.session.specs.Totals.{addedBy}

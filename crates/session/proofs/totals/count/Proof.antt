@@ -1,4 +1,4 @@
--- `count` meets its contract. Assumes nothing.
+-- `session::totals::count` meets its contract. Assumes nothing.
 use Prim.Native.Nat.{_-_}
 use Rattle.session.specs.Totals.{counted}
 use borrow.Author.Needs.{needs}

@@ -1,4 +1,4 @@
--- `no_word` meets its contract. Assumes nothing.
+-- `session::totals::no_word` meets its contract. Assumes nothing.
 use Prim.Native.Nat.{_-_}
 use Rattle.session.specs.Totals.{noWord}
 use borrow.Author.Needs.{needs}

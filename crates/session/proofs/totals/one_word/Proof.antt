@@ -1,4 +1,4 @@
--- `one_word` meets its contract. Assumes nothing.
+-- `session::totals::one_word` meets its contract. Assumes nothing.
 use Prim.Native.Nat.{_-_}
 use Rattle.session.specs.Totals.{oneWord}
 use borrow.Author.Needs.{needs}

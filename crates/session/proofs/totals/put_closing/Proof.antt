@@ -1,4 +1,4 @@
--- `put_closing` meets its contract. Assumes nothing.
+-- `session::totals::put_closing` meets its contract. Assumes nothing.
 use Prim.Native.Nat.{_-_}
 use Rattle.session.proofs.Closing.{closing-put}
 use borrow.Author.Needs.{needs}

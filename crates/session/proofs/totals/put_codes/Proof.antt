@@ -1,4 +1,4 @@
--- `put_codes` meets its contract: the lines of the codes passed are written. Assumes nothing.
+-- `session::totals::put_codes` meets its contract: the lines of the codes passed are written. Assumes nothing.
 use Prim.Native.Nat.{_-_}
 use native.Mathlib.Omega.{arith}
 use Rattle.session.proofs.Closing.{Listing, listing-none, listing-more, listing-room, listing-done}

@@ -1,4 +1,4 @@
--- `put_line` meets its contract: a line, or none where there are no words. Assumes nothing.
+-- `session::totals::put_line` meets its contract: a line, or none where there are no words. Assumes nothing.
 use Prim.Native.Nat.{_-_}
 use Rattle.session.proofs.Closing.{code-none, code-some}
 use borrow.Author.Needs.{needs}

@@ -1,4 +1,4 @@
--- `sum` meets its contract. Assumes nothing.
+-- `session::totals::sum` meets its contract. Assumes nothing.
 use Prim.Native.Nat.{_-_}
 use Rattle.session.specs.Totals.{summed}
 use borrow.Author.Needs.{needs}

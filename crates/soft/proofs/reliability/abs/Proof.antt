@@ -1,4 +1,4 @@
--- `abs` meets its contract, by the sign of its argument. Assumes nothing.
+-- `soft::reliability::abs` meets its contract, by the sign of its argument. Assumes nothing.
 use mathlib.Core.Path.{sym, subst}
 use lib.Dec.{T}
 use lib.Ieee.{binary64, ofBits}

@@ -1,4 +1,4 @@
--- `all_finite` meets its contract: the values passed were tested. Assumes nothing.
+-- `soft::reliability::all_finite` meets its contract: the values passed were tested. Assumes nothing.
 use mathlib.Core.Path.{_≡_, refl}
 use Prim.Native.Nat.{_-_}
 use native.Mathlib.Omega.{arith}

@@ -1,4 +1,4 @@
--- `differs_from_sign` meets its contract. Assumes nothing.
+-- `soft::reliability::differs_from_sign` meets its contract. Assumes nothing.
 use native.Mathlib.Omega.{arith}
 use lib.Ieee.{ofBits}
 use Rattle.soft.specs.Reliability.{negative}

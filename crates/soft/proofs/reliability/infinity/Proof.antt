@@ -1,4 +1,4 @@
--- `infinity` meets its contract: one divided by zero. Assumes nothing.
+-- `soft::reliability::infinity` meets its contract: one divided by zero. Assumes nothing.
 use lib.Ieee.{div, ofBits}
 use borrow.Author.Needs.{needs}
 use Rattle.soft.proofs.reliability.infinity.Statement.{statement}

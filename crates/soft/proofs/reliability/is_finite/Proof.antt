@@ -1,4 +1,4 @@
--- `is_finite` meets its contract: what lies between the infinities. Assumes nothing.
+-- `soft::reliability::is_finite` meets its contract: what lies between the infinities. Assumes nothing.
 use lib.Ieee.{neg}
 use Rattle.soft.proofs.Tests.{finite-below, finite-above}
 use borrow.Author.Needs.{needs}

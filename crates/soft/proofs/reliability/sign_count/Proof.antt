@@ -1,4 +1,4 @@
--- `sign_count` meets its contract. Assumes nothing.
+-- `soft::reliability::sign_count` meets its contract. Assumes nothing.
 use mathlib.Core.Path.{_≡_, refl}
 use Prim.Native.Nat.{_-_}
 use native.Mathlib.Omega.{arith}

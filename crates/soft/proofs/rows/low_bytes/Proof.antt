@@ -1,4 +1,4 @@
--- `low_bytes` meets its contract. Assumes nothing.
+-- `soft::rows::low_bytes` meets its contract. Assumes nothing.
 use mathlib.Core.Path.{_≡_, refl}
 use Prim.Native.Nat.{_-_, _%_}
 use native.Mathlib.Omega.{arith}

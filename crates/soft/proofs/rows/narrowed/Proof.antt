@@ -1,4 +1,4 @@
--- `narrowed` meets its contract: the rows passed are narrowed. Assumes nothing.
+-- `soft::rows::narrowed` meets its contract: the rows passed are narrowed. Assumes nothing.
 use mathlib.Core.Path.{_≡_, refl}
 use mathlib.Core.List.{[]}
 use Prim.Native.Nat.{ℕ, _-_, _%_, _<_}

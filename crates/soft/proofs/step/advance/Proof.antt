@@ -1,4 +1,4 @@
--- `advance` meets its contract: the butterflies passed fill two states each. Assumes nothing.
+-- `soft::step::advance` meets its contract: the butterflies passed fill two states each. Assumes nothing.
 use mathlib.Core.Path.{refl}
 use Prim.Native.Nat.{_-_}
 use native.Mathlib.Omega.{arith}

@@ -1,4 +1,4 @@
--- `bit_cost` meets its contract. Assumes nothing.
+-- `soft::step::bit_cost` meets its contract. Assumes nothing.
 use lib.Ieee.{ofBits}
 use Rattle.soft.specs.Reliability.{negative}
 use Rattle.soft.proofs.Costs.{cost-size, cost-none}

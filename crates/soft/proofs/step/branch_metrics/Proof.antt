@@ -1,4 +1,4 @@
--- `branch_metrics` meets its contract: the butterflies passed have their two branch metrics. Assumes nothing.
+-- `soft::step::branch_metrics` meets its contract: the butterflies passed have their two branch metrics. Assumes nothing.
 use mathlib.Core.Path.{_≡_, refl, _∙_}
 use mathlib.Core.Bool.{true, false}
 use mathlib.Core.List.{[], _∷_}

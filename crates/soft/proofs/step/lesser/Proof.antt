@@ -1,4 +1,4 @@
--- `lesser` meets its contract. Assumes nothing.
+-- `soft::step::lesser` meets its contract. Assumes nothing.
 use Rattle.soft.specs.Step.{lesserOf}
 use Rattle.soft.proofs.step.lesser.Statement.{statement}
 use Rattle.soft.proofs.step.lesser.Tie as tie

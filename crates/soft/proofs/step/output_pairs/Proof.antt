@@ -1,4 +1,4 @@
--- `output_pairs` meets its contract: the places passed hold the output pairs. Assumes nothing.
+-- `soft::step::output_pairs` meets its contract: the places passed hold the output pairs. Assumes nothing.
 use mathlib.Core.Bool.{false}
 use mathlib.Core.Path.{_≡_, refl}
 use Prim.Native.Nat.{_-_}

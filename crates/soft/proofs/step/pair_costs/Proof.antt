@@ -1,4 +1,4 @@
--- `pair_costs` meets its contract. Assumes nothing.
+-- `soft::step::pair_costs` meets its contract. Assumes nothing.
 use Rattle.soft.proofs.Costs.{pair-costs}
 use borrow.Author.Needs.{needs}
 use Rattle.soft.proofs.step.pair_costs.Statement.{statement}

@@ -1,4 +1,4 @@
--- `predecessor` meets its contract. Assumes nothing.
+-- `soft::step::predecessor` meets its contract. Assumes nothing.
 use Rattle.soft.specs.Step.{chosenOf}
 use borrow.Author.Needs.{needs}
 use Rattle.soft.proofs.step.predecessor.Statement.{statement}

@@ -1,4 +1,4 @@
--- `speech_inputs::checksum` meets its contract: the significant bits are gathered. Assumes nothing.
+-- `speech::inputs::checksum` meets its contract: the significant bits are gathered. Assumes nothing.
 use mathlib.Core.Path.{refl, ap, _∙_}
 use Rattle.bits.specs.Bits.{bits}
 use Rattle.bits.proofs.Binary.{bits-bytes}

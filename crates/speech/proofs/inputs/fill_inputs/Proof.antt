@@ -1,4 +1,4 @@
--- `speech_inputs::fill_inputs` meets its contract: the class-one bits among zeros, and then their checksum. Assumes nothing.
+-- `speech::inputs::fill_inputs` meets its contract: the class-one bits among zeros, and then their checksum. Assumes nothing.
 use mathlib.Core.Path.{ap}
 use native.Mathlib.Omega.{arith}
 use lib.ListN.{length}

@@ -1,4 +1,4 @@
--- `speech_inputs::gather` meets its contract: the first i places are read. Assumes nothing.
+-- `speech::inputs::gather` meets its contract: the first i places are read. Assumes nothing.
 use mathlib.Core.Path.{_≡_, refl, sym, _∙_}
 use Prim.Native.Nat.{_-_}
 use native.Mathlib.Omega.{arith}

@@ -1,4 +1,4 @@
--- `speech_inputs::put_parity` meets its contract: the first i places of the checksum are written. Assumes nothing.
+-- `speech::inputs::put_parity` meets its contract: the first i places of the checksum are written. Assumes nothing.
 use mathlib.Core.Path.{refl, sym, _∙_}
 use Prim.Native.Nat.{_-_}
 use native.Mathlib.Omega.{arith}

@@ -1,4 +1,4 @@
--- `speech_inputs::take_parity` meets its contract. Assumes nothing.
+-- `speech::inputs::take_parity` meets its contract. Assumes nothing.
 use Rattle.speech.specs.Runs.{allBelow}
 use borrow.Author.Needs.{needs}
 use Rattle.speech.proofs.inputs.take_parity.Statement.{statement}

@@ -1,4 +1,4 @@
--- `runs::copy_run` meets its contract: i bytes of the run are copied. Assumes nothing.
+-- `speech::runs::copy_run` meets its contract: i bytes of the run are copied. Assumes nothing.
 use Prim.Native.Nat.{_-_}
 use native.Mathlib.Omega.{arith}
 use Rattle.speech.proofs.Running.{Copying, copying-none, copying-more, copying-length, copying-done}

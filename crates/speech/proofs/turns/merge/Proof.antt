@@ -1,4 +1,4 @@
--- `speech_turns::merge` meets its contract: the runs of class two, and those between them. Assumes nothing.
+-- `speech::turns::merge` meets its contract: the runs of class two, and those between them. Assumes nothing.
 use mathlib.Core.Path.{refl, ap, _∙_}
 use Rattle.speech.specs.Runs.{totalOf, putRuns}
 use Rattle.speech.proofs.Turning.{inside, in-frame, between, merged}

@@ -1,4 +1,4 @@
--- `speech_turns::take_class_two` meets its contract: the runs of the table are those of class two. Assumes nothing.
+-- `speech::turns::take_class_two` meets its contract: the runs of the table are those of class two. Assumes nothing.
 use mathlib.Core.Path.{refl, _∙_}
 use Rattle.speech.specs.Runs.{totalOf}
 use Rattle.speech.proofs.Turning.{inside, in-frame, class-two-runs}

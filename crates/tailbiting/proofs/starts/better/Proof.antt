@@ -1,4 +1,4 @@
--- `tail_search::better` meets its contract, by three ways out. Assumes nothing.
+-- `tailbiting::starts::better` meets its contract, by three ways out. Assumes nothing.
 use borrow.Author.Needs.{needs}
 use Rattle.tailbiting.proofs.Joined.{run-less, best-less, both-even}
 use Rattle.tailbiting.proofs.starts.better.Statement.{statement}

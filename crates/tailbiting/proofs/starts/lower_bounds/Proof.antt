@@ -1,4 +1,4 @@
--- `tail_search::lower_bounds` meets its contract: a path from a given start costs no less than one from any. Assumes nothing.
+-- `tailbiting::starts::lower_bounds` meets its contract: a path from a given start costs no less than one from any. Assumes nothing.
 use native.Mathlib.Omega.{arith}
 use borrow.Author.Needs.{needs}
 use Rattle.tailbiting.proofs.Turns.{starts-low, bounded}

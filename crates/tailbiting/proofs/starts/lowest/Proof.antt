@@ -1,4 +1,4 @@
--- `tail_search::lowest` meets its contract: the state is one of the 32. Assumes nothing.
+-- `tailbiting::starts::lowest` meets its contract: the state is one of the 32. Assumes nothing.
 use Prim.Native.Nat.{_-_, _<_, _≤_}
 use native.Mathlib.Omega.{arith}
 use Rattle.tailbiting.proofs.starts.lowest.Statement.{statement}

@@ -1,4 +1,4 @@
--- `tail_search::search` meets its contract: after each turn the best of the starts tried is kept. Assumes nothing.
+-- `tailbiting::starts::search` meets its contract: after each turn the best of the starts tried is kept. Assumes nothing.
 use Prim.Native.Nat.{_-_, _≤_}
 use native.Mathlib.Omega.{arith}
 use mathlib.Core.Path.{_≡_}

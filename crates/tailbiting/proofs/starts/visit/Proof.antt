@@ -1,4 +1,4 @@
--- `tail_search::visit` meets its contract: one more start is tried or passed over. Assumes nothing.
+-- `tailbiting::starts::visit` meets its contract: one more start is tried or passed over. Assumes nothing.
 use mathlib.Core.Path.{refl}
 use borrow.Author.Needs.{needs}
 use Rattle.tailbiting.proofs.Turns.{passed, tried-run}

@@ -1,4 +1,4 @@
--- `decimal_places` meets its contract: the digits passed are counted. Assumes nothing.
+-- `text::numerals::decimal_places` meets its contract: the digits passed are counted. Assumes nothing.
 use Prim.Native.Nat.{_-_}
 use Rattle.text.proofs.Digits.{Counted, counted-none, counted-last, counted-end, counted-more}
 use borrow.Author.Needs.{needs}

@@ -1,4 +1,4 @@
--- `glyph` meets its contract. Assumes nothing.
+-- `text::numerals::glyph` meets its contract. Assumes nothing.
 use Prim.Native.Nat.{_-_}
 use Rattle.text.proofs.Digits.{glyph-low, glyph-high}
 use borrow.Author.Needs.{needs}

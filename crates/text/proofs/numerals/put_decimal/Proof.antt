@@ -1,4 +1,4 @@
--- `put_decimal` meets its contract: it puts as many digits as the number has. Assumes nothing.
+-- `text::numerals::put_decimal` meets its contract: it puts as many digits as the number has. Assumes nothing.
 use Prim.Native.Nat.{_-_}
 use Rattle.text.proofs.Digits.{decimal-put}
 use borrow.Author.Needs.{needs}

@@ -1,4 +1,4 @@
--- `put_digits` meets its contract: the digits passed stand at their places. Assumes nothing.
+-- `text::numerals::put_digits` meets its contract: the digits passed stand at their places. Assumes nothing.
 use mathlib.Core.Path.{_≡_, refl}
 use Prim.Native.Nat.{_-_, _≤_}
 use native.Mathlib.Omega.{arith}

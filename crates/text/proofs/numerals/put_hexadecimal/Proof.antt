@@ -1,4 +1,4 @@
--- `put_hexadecimal` meets its contract. Assumes nothing.
+-- `text::numerals::put_hexadecimal` meets its contract. Assumes nothing.
 use Prim.Native.Nat.{_-_}
 use Rattle.text.proofs.Digits.{hexadecimal-put}
 use borrow.Author.Needs.{needs}

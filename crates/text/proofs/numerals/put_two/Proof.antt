@@ -1,4 +1,4 @@
--- `put_two` meets its contract. Assumes nothing.
+-- `text::numerals::put_two` meets its contract. Assumes nothing.
 use Prim.Native.Nat.{_-_}
 use Rattle.text.proofs.Stored.{put-then}
 use borrow.Author.Needs.{needs}

@@ -1,4 +1,4 @@
--- `sacch_stored::state::stored_fit` meets its contract: the fields, and the rows. Assumes nothing.
+-- `sacch_receiver::stored::state::stored_fit` meets its contract: the fields, and the rows. Assumes nothing.
 use mathlib.Core.Bool.{_&&_}
 use mathlib.Core.Path.{ap₂, _∙_}
 use borrow.Author.Needs.{needs}

@@ -1,4 +1,4 @@
--- `sacch_stored::window::decode_window` meets its contract: the bits are 132, so nothing is refused before the search. Assumes nothing.
+-- `sacch_receiver::stored::window::decode_window` meets its contract: the bits are 132, so nothing is refused before the search. Assumes nothing.
 use Rattle.sacch_receiver.proofs.Decoded.{window-decoded}
 use borrow.Author.Needs.{needs}
 use Rattle.sacch_receiver.proofs.stored.window.decode_window.Statement.{statement}

@@ -1,4 +1,4 @@
--- `sacch_stored::window::fill_window` meets its contract: the rows passed stand at their places. Assumes nothing.
+-- `sacch_receiver::stored::window::fill_window` meets its contract: the rows passed stand at their places. Assumes nothing.
 use Prim.Native.Nat.{_-_}
 use native.Mathlib.Omega.{arith}
 use Rattle.sacch_receiver.proofs.Unrolled.{Unrolling, unrolling-none, unrolling-more, unrolling-done}

@@ -1,8 +1,8 @@
--- `survivors::traceback` meets its contract: the bits and the tie of the steps passed, read from the end. Assumes nothing.
+-- `search::traceback::traceback` meets its contract: the bits and the tie of the steps passed, read from the end. Assumes nothing.
 use native.Mathlib.Omega.{arith}
 use Rattle.search.proofs.Tracing.{Tracing, tracing-none, tracing-more, tracing-done}
-use Rattle.search.proofs.forward.traceback.Statement.{statement}
-use Rattle.search.proofs.forward.traceback.Tie as tie
+use Rattle.search.proofs.traceback.traceback.Statement.{statement}
+use Rattle.search.proofs.traceback.traceback.Tie as tie
 
 abbrev Inv-loop : tie.InvT-loop
 Inv-loop predecessors end held bits₀ state₀ step₀ tie₀ bits state step tie = Tracing predecessors held end bits₀ bits state step tie

@@ -1,7 +1,7 @@
--- `survivors::tie_so_far` meets its contract. Assumes nothing.
+-- `search::traceback::tie_so_far` meets its contract. Assumes nothing.
 use borrow.Author.Needs.{needs}
-use Rattle.search.proofs.forward.tie_so_far.Statement.{statement}
-use Rattle.search.proofs.forward.tie_so_far.Tie as tie
+use Rattle.search.proofs.traceback.tie_so_far.Statement.{statement}
+use Rattle.search.proofs.traceback.tie_so_far.Tie as tie
 
 returns : tie.Need-returns
 returns c = search needs
