@@ -68,12 +68,12 @@ struct bts136_search {
     bool tie;        /* whether another word has as few */
 };
 
-/* A DCCH block coded or decoded. */
+/* A decoded DCCH block. */
 struct bts136_block {
     uint8_t refusal;    /* 0, 1, 2 or 3 */
     size_t expected;    /* with number 1, the length that was expected */
     size_t actual;      /* with number 1, the length that came */
-    uint16_t corrected; /* corrected coded bits, at most the length of the block; 0 for an encoder */
+    uint16_t corrected; /* corrected coded bits, at most the length of the block */
 };
 
 /* A call that only writes bits. */
@@ -184,13 +184,13 @@ struct bts136_search bts136_viterbi_free(const uint8_t *coded, size_t coded_len,
 /* ---- DCCH */
 
 /* Codes 109 bits of information into the 260 of a forward block. Refused: 1 for information, then block; 2. */
-struct bts136_block bts136_dcch_encode_forward(
+struct bts136_written bts136_dcch_encode_forward(
     const uint8_t *information, size_t information_len, uint8_t dvcc, bool broadcast, uint8_t *block, size_t block_len);
 /* Codes 101 bits of information into the 244 of a normal reverse block. Refused as above. */
-struct bts136_block bts136_dcch_encode_reverse_normal(
+struct bts136_written bts136_dcch_encode_reverse_normal(
     const uint8_t *information, size_t information_len, uint8_t dvcc, bool broadcast, uint8_t *block, size_t block_len);
 /* Codes 79 bits of information into the 200 of an abbreviated reverse block. Refused as above. */
-struct bts136_block bts136_dcch_encode_reverse_abbreviated(
+struct bts136_written bts136_dcch_encode_reverse_abbreviated(
     const uint8_t *information, size_t information_len, uint8_t dvcc, bool broadcast, uint8_t *block, size_t block_len);
 
 /*

@@ -5,7 +5,7 @@ use bindings::flat;
 pub use bindings::flat::{acelp_transition, dcch_transition, facch_transition};
 pub use bindings::flat::{checksum, checksum7, viterbi, viterbi_free};
 pub use bindings::sys::{Block, Crc as Checksum, Search, Step};
-use bindings::sys::{FacchWord, Frame, SacchWord};
+use bindings::sys::{FacchWord, Frame, SacchWord, Written};
 
 /// A state or an answer of the port, made of what the Rust or another call has.
 pub trait Of<T> {
@@ -35,13 +35,20 @@ macro_rules! refused {
 
 refused!(FacchWord, SacchWord, Frame);
 
+impl Of<Written> for Block {
+    fn of(written: Written) -> Self {
+        let Written { refusal, expected, actual } = written;
+        Block { refusal, expected, actual, corrected: 0 }
+    }
+}
+
 pub fn dcch_encode(
     format: BlockFormat,
     information: &[u8],
     dvcc: u8,
     broadcast: bool,
     block: &mut [u8],
-) -> Block {
+) -> Written {
     let call = match format {
         BlockFormat::Forward => flat::dcch_encode_forward,
         BlockFormat::ReverseNormal => flat::dcch_encode_reverse_normal,

@@ -18,7 +18,7 @@
 use crate::bits::{bool_list, byte_list};
 use crate::flat;
 use crate::refusal::{Refusal, never};
-use crate::sys::Block;
+use crate::sys::{Block, Written};
 use std::error::Error;
 use std::fmt;
 
@@ -114,24 +114,24 @@ pub struct DecodedBlock {
 }
 
 /// What is read, DVCC, Broadcast, what is written.
-type Call<T> = fn(&[T], u8, bool, &mut [u8]) -> Block;
+type Call<T, A> = fn(&[T], u8, bool, &mut [u8]) -> A;
 
 impl BlockFormat {
-    fn encode(self) -> Call<u8> {
+    fn encode(self) -> Call<u8, Written> {
         match self {
             Self::Forward => flat::dcch_encode_forward,
             Self::ReverseNormal => flat::dcch_encode_reverse_normal,
             Self::ReverseAbbreviated => flat::dcch_encode_reverse_abbreviated,
         }
     }
-    fn decode(self) -> Call<u8> {
+    fn decode(self) -> Call<u8, Block> {
         match self {
             Self::Forward => flat::dcch_decode_forward,
             Self::ReverseNormal => flat::dcch_decode_reverse_normal,
             Self::ReverseAbbreviated => flat::dcch_decode_reverse_abbreviated,
         }
     }
-    fn decode_soft(self) -> Call<f64> {
+    fn decode_soft(self) -> Call<f64, Block> {
         match self {
             Self::Forward => flat::dcch_decode_soft_forward,
             Self::ReverseNormal => flat::dcch_decode_soft_reverse_normal,
@@ -140,28 +140,31 @@ impl BlockFormat {
     }
 }
 
-/// Makes a call that writes so many bits.
-fn call<T>(
-    function: Call<T>,
-    input: &[T],
-    dvcc: u8,
-    mode: CrcMode,
-    room: usize,
-) -> Result<DecodedBlock, BlockError> {
-    let mut written = vec![0; room];
-    let answer = function(input, dvcc, mode == CrcMode::Broadcast, &mut written);
-    match answer.refusal {
-        0 => Ok(DecodedBlock {
-            information: bool_list(&written),
-            corrected_coded_bits: answer.corrected,
-        }),
-        1 => Err(BlockError::Length {
-            expected: answer.expected,
-            actual: answer.actual,
-        }),
+/// A number with the lengths that go with it, as an error.
+fn accepted(refusal: u8, expected: usize, actual: usize) -> Result<(), BlockError> {
+    match refusal {
+        0 => Ok(()),
+        1 => Err(BlockError::Length { expected, actual }),
         3 => Err(BlockError::Crc),
         other => never(other),
     }
+}
+
+/// Makes a decoding call.
+fn decoded<T>(
+    function: Call<T, Block>,
+    input: &[T],
+    dvcc: u8,
+    mode: CrcMode,
+    format: BlockFormat,
+) -> Result<DecodedBlock, BlockError> {
+    let mut information = vec![0; format.information_bits()];
+    let answer = function(input, dvcc, mode == CrcMode::Broadcast, &mut information);
+    accepted(answer.refusal, answer.expected, answer.actual)?;
+    Ok(DecodedBlock {
+        information: bool_list(&information),
+        corrected_coded_bits: answer.corrected,
+    })
 }
 
 /// Codes the information of a block (IS-136.1-A 4.4.3 and 5.2.6).
@@ -171,9 +174,11 @@ pub fn encode(
     dvcc: u8,
     mode: CrcMode,
 ) -> Result<Vec<bool>, BlockError> {
-    let (input, room) = (byte_list(information), format.encoded_bits());
-    let coded = call(format.encode(), &input, dvcc, mode, room)?;
-    Ok(coded.information)
+    let mut block = vec![0; format.encoded_bits()];
+    let broadcast = mode == CrcMode::Broadcast;
+    let answer = format.encode()(&byte_list(information), dvcc, broadcast, &mut block);
+    accepted(answer.refusal, answer.expected, answer.actual)?;
+    Ok(bool_list(&block))
 }
 
 /// Decodes the bits of a block to the nearest word; among words equally near, the one with a zero
@@ -184,8 +189,7 @@ pub fn decode(
     dvcc: u8,
     mode: CrcMode,
 ) -> Result<DecodedBlock, BlockError> {
-    let (input, room) = (byte_list(encoded), format.information_bits());
-    call(format.decode(), &input, dvcc, mode, room)
+    decoded(format.decode(), &byte_list(encoded), dvcc, mode, format)
 }
 
 /// Decodes the reliabilities of a block: a positive one favours zero, a negative one favours one,
@@ -208,8 +212,7 @@ pub fn decode_soft(
     dvcc: u8,
     mode: CrcMode,
 ) -> Result<DecodedBlock, BlockError> {
-    let room = format.information_bits();
-    call(format.decode_soft(), encoded, dvcc, mode, room)
+    decoded(format.decode_soft(), encoded, dvcc, mode, format)
 }
 
 /// The checksum of any number of bits under a colour code.

@@ -48,14 +48,14 @@ macro_rules! two_to_one {
     )*};
 }
 
-/// Calls on a DCCH block, each with the type of what it reads.
+/// Calls on a DCCH block, each with the type of what it reads and of what it answers.
 macro_rules! blocks {
     ($(
         $(#[$doc:meta])*
-        $call:ident = $function:ident($from:ident: $type:ty, $to:ident);
+        $call:ident = $function:ident($from:ident: $type:ty, $to:ident) -> $answer:ty;
     )*) => {$(
         $(#[$doc])*
-        pub fn $call($from: &[$type], dvcc: u8, broadcast: bool, $to: &mut [u8]) -> Block {
+        pub fn $call($from: &[$type], dvcc: u8, broadcast: bool, $to: &mut [u8]) -> $answer {
             let (out, out_len) = ($to.as_mut_ptr(), $to.len());
             unsafe { sys::$function($from.as_ptr(), $from.len(), dvcc, broadcast, out, out_len) }
         }
@@ -98,27 +98,27 @@ one_to_one! {
 
 blocks! {
     /// Codes 109 bits into the 260 of a forward block.
-    dcch_encode_forward = bts136_dcch_encode_forward(information: u8, block);
+    dcch_encode_forward = bts136_dcch_encode_forward(information: u8, block) -> Written;
     /// Codes 101 bits into the 244 of a normal reverse block.
-    dcch_encode_reverse_normal = bts136_dcch_encode_reverse_normal(information: u8, block);
+    dcch_encode_reverse_normal = bts136_dcch_encode_reverse_normal(information: u8, block) -> Written;
     /// Codes 79 bits into the 200 of an abbreviated reverse block.
     dcch_encode_reverse_abbreviated =
-        bts136_dcch_encode_reverse_abbreviated(information: u8, block);
+        bts136_dcch_encode_reverse_abbreviated(information: u8, block) -> Written;
     /// Decodes the 260 bits of a forward block into 109.
-    dcch_decode_forward = bts136_dcch_decode_forward(block: u8, information);
+    dcch_decode_forward = bts136_dcch_decode_forward(block: u8, information) -> Block;
     /// Decodes the 244 bits of a normal reverse block into 101.
-    dcch_decode_reverse_normal = bts136_dcch_decode_reverse_normal(block: u8, information);
+    dcch_decode_reverse_normal = bts136_dcch_decode_reverse_normal(block: u8, information) -> Block;
     /// Decodes the 200 bits of an abbreviated reverse block into 79.
     dcch_decode_reverse_abbreviated =
-        bts136_dcch_decode_reverse_abbreviated(block: u8, information);
+        bts136_dcch_decode_reverse_abbreviated(block: u8, information) -> Block;
     /// Decodes the 260 reliabilities of a forward block into 109 bits.
-    dcch_decode_soft_forward = bts136_dcch_decode_soft_forward(block: f64, information);
+    dcch_decode_soft_forward = bts136_dcch_decode_soft_forward(block: f64, information) -> Block;
     /// Decodes the 244 reliabilities of a normal reverse block into 101 bits.
     dcch_decode_soft_reverse_normal =
-        bts136_dcch_decode_soft_reverse_normal(block: f64, information);
+        bts136_dcch_decode_soft_reverse_normal(block: f64, information) -> Block;
     /// Decodes the 200 reliabilities of an abbreviated reverse block into 79 bits.
     dcch_decode_soft_reverse_abbreviated =
-        bts136_dcch_decode_soft_reverse_abbreviated(block: f64, information);
+        bts136_dcch_decode_soft_reverse_abbreviated(block: f64, information) -> Block;
 }
 
 /// Codes a word into 260 bits.

@@ -6,28 +6,21 @@ use Prim.Native.Nat.{ℕ, _*_}
 use lib.ListN.{length, take, drop, length-map}
 use lib.Seq.{take-at}
 use Rattle.bits.specs.Bits.{bits, bytes, byte, allBinary}
-use Rattle.bits.specs.Refusals.{exactOf, binaryOf}
-use Rattle.bits.specs.declared.Lent.{Lent}
-use Rattle.bits.specs.declared.Lent.the-variants.{Fine}
+use Rattle.bits.specs.Arguments.{exactOf, binaryOf}
+use Rattle.bits.specs.declared.arguments.Arguments.{Arguments}
+use Rattle.bits.specs.declared.arguments.Arguments.the-variants.{Passed}
 use Rattle.bits.proofs.Binary.{bits-bytes, binary-bytes, bytes-append}
 use Rattle.bits.proofs.Listed.{length-listed}
-use Rattle.bits.proofs.Refusing.{fine-first, fine-exact, fine-binary}
+use Rattle.bits.proofs.Refusing.{passed-first, passed-exact, passed-binary}
 use Rattle.coding.specs.Codes.{coded, acelp}
 use Rattle.coding.specs.Registers.{memoryLow}
 use Rattle.coding.proofs.Coded.{coded-length}
 use Rattle.puncturing.specs.Punctured.{sentOf}
 use Rattle.puncturing.proofs.Kept.{sent-length}
-use Rattle.acelp_cc1.specs.Calls.{lentEncode}
+use Rattle.acelp_cc1.specs.Calls.{encodeArguments}
 use Rattle.acelp_cc1.specs.Frames.{ordered, inputsOf, orderedFrame, frameOf}
 use Rattle.acelp_cc1.proofs.Ordering.{ordered-bytes, bytes-drop}
 use Rattle.acelp_cc1.proofs.Inputs.{inputs-length}
-
-pub encode-fine : (speech : List ℕ) (room : ℕ) {ready : Lent} → ready ≡ lentEncode speech room → ready ≡ Fine
-    → (length speech ≡ 148) × (allBinary speech ≡ true) × (room ≡ 260)
-encode-fine speech room told e =
-    let f = fine-first (exactOf 148 (length speech)) _ (sym told ∙ e) in
-    let g = fine-first (exactOf 260 room) (binaryOf speech) (f .1) in
-    (sym (fine-exact 148 (length speech) (f .0)), fine-binary speech (g .1), sym (fine-exact 260 room (g .0)))
 
 -- 208 bits of 108 inputs
 pub protected-length : (m u : List Bool) → length u ≡ 108 → length (sentOf (coded acelp m u)) ≡ 208
@@ -43,13 +36,13 @@ module _ (speech : List ℕ) (binary : allBinary speech ≡ true) {sorted : List
   sorted-bits : bits sorted ≡ order
   sorted-bits = ap bits sorted-bytes ∙ bits-bytes order
 
-  pub sorted-fine : (length sorted ≡ 148) × (allBinary sorted ≡ true)
+  pub sorted-passed : (length sorted ≡ 148) × (allBinary sorted ≡ true)
   unfolding ordered
-  sorted-fine = (ap length e ∙ length-listed 148 _, ap allBinary sorted-bytes ∙ binary-bytes order)
+  sorted-passed = (ap length e ∙ length-listed 148 _, ap allBinary sorted-bytes ∙ binary-bytes order)
 
   module _ {inputs : List ℕ} (f : inputs ≡ bytes (inputsOf (bits sorted))) where
-    pub inputs-fine : (length inputs ≡ 108) × (allBinary inputs ≡ true)
-    inputs-fine = (ap length f ∙ length-map (inputsOf (bits sorted)) byte ∙ inputs-length (bits sorted), ap allBinary f ∙ binary-bytes (inputsOf (bits sorted)))
+    pub inputs-passed : (length inputs ≡ 108) × (allBinary inputs ≡ true)
+    inputs-passed = (ap length f ∙ length-map (inputsOf (bits sorted)) byte ∙ inputs-length (bits sorted), ap allBinary f ∙ binary-bytes (inputsOf (bits sorted)))
 
     inputs-bits : bits inputs ≡ inputsOf order
     inputs-bits = ap bits f ∙ bits-bytes (inputsOf (bits sorted)) ∙ ap inputsOf sorted-bits

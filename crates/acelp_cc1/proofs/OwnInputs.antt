@@ -15,7 +15,7 @@ use Rattle.bits.proofs.Packed.{unpacked-length}
 use Rattle.bits.proofs.Tested.{below, sameBit, sameBit-eq}
 use Rattle.checksums.specs.Checksums.{checksum7Of}
 use Rattle.trellis.specs.Words.{Terminated}
-use Rattle.acelp_cc1.specs.Calls.{sound}
+use Rattle.acelp_cc1.specs.Calls.{inputsValid}
 use Rattle.acelp_cc1.specs.Frames.{informationPlace, informationPlaces, parityPlaces, parityOf, inputsOf, classOneOf, checkOf}
 use Rattle.acelp_cc1.proofs.Inputs.{inputs-length}
 use Rattle.acelp_cc1.proofs.Placing.{information-size, information-apart, parity-apart}
@@ -61,9 +61,9 @@ module _ (order : List Bool) where
   check-own = sym (is-listed 7 _ false (parityOf order) (unpacked-length 7 _) (λ k h. sym (check-at k h)))
 
   -- the checksum in the inputs is right
-  pub sound-own : length order ≡ 148 → sound (inputsOf order) ≡ true
-  unfolding sound parityOf
-  sound-own size =
+  pub valid-own : length order ≡ 148 → inputsValid (inputsOf order) ≡ true
+  unfolding inputsValid parityOf
+  valid-own size =
       let same : parityOf (classOneOf (inputsOf order)) ≡ parityOf order =
       ap parityOf (class-one-own size) ∙ ap (λ (l : List Bool). unpacked 7 (checksum7Of l)) (take-take 48 96 order (omega arith)) in
       eq-eqb _ _ (ap packed (check-own ∙ sym same))

@@ -17,7 +17,7 @@ use Rattle.bits.proofs.Listed.{length-listed, getD-listed, map-taken, is-listed
 use Rattle.bits.proofs.Packed.{packed-below, packed-unpacked-below}
 use Rattle.checksums.specs.Checksums.{checksum7Of, checkBits, speech}
 use Rattle.checksums.proofs.Division.{checkBits-length}
-use Rattle.acelp_cc1.specs.Calls.{Told, Finished, sound}
+use Rattle.acelp_cc1.specs.Calls.{Told, Finished, inputsValid}
 use Rattle.acelp_cc1.specs.Frames.{speechOrder, informationPlace, informationPlaces, parityPlaces, parityOf, classOneOf, checkOf, unordered}
 use Rattle.acelp_cc1.specs.Places.{taken, put}
 use Rattle.acelp_cc1.proofs.Ordering.{bytes-drop, put-unordered, unordered-bytes}
@@ -46,9 +46,9 @@ module _ (inputs : List ℕ) (binary : allBinary inputs ≡ true) where
   unfolding checkOf
   check-bytes e f = f ∙ ap (λ (p : List ℕ). taken p inputs) e ∙ taken-bytes 7 parityPlaces inputs refl binary
 
-  pub check-fine : {positions parity : List ℕ} → positions ≡ parityPlaces → parity ≡ taken positions inputs → (length parity ≤ 64) × (allBinary parity ≡ true)
+  pub check-passed : {positions parity : List ℕ} → positions ≡ parityPlaces → parity ≡ taken positions inputs → (length parity ≤ 64) × (allBinary parity ≡ true)
   unfolding checkOf
-  check-fine e f =
+  check-passed e f =
       let q = check-bytes e f in
       (omega (arith, ap length q ∙ length-map (checkOf (bits inputs)) byte ∙ length-listed 7 _), ap allBinary q ∙ binary-bytes (checkOf (bits inputs)))
 
@@ -85,9 +85,9 @@ module _ (u w : List Bool) {sorted : List ℕ} (e : sorted ≡ bytes (classOneOf
       ∙ sym (f ∙ ap checksum7Of (bits-take 48 sorted ∙ ap (λ (l : List ℕ). take 48 (bits l)) e ∙ ap (take 48) (bits-bytes (classOneOf u ++ w))
       ∙ take-append-le 48 (classOneOf u) w (omega (arith, class-one-length u))))
 
-  sound-value : {received checksum : ℕ} → received ≡ packed (checkOf u) → checksum ≡ checksum7Of (bits (take 48 sorted)) → eqb received checksum ≡ sound u
-  unfolding sound
-  sound-value g f = ap₂ eqb g (sym (parity-value f))
+  valid-value : {received checksum : ℕ} → received ≡ packed (checkOf u) → checksum ≡ checksum7Of (bits (take 48 sorted)) → eqb received checksum ≡ inputsValid u
+  unfolding inputsValid
+  valid-value g f = ap₂ eqb g (sym (parity-value f))
 
   pub finished : (frame speech₀ : List ℕ) {places written : List ℕ} {received checksum corrected : ℕ} {answer : Answer Told} → w ≡ drop 208 (bits frame) → length speech₀ ≡ 148
       → received ≡ packed (checkOf u) → checksum ≡ checksum7Of (bits (take 48 sorted)) → places ≡ speechOrder → written ≡ put places sorted speech₀
@@ -97,5 +97,5 @@ module _ (u w : List Bool) {sorted : List ℕ} (e : sorted ≡ bytes (classOneOf
         written =
             put-unordered sorted speech₀ room ep ew ∙ ap (unordered 0) e ∙ unordered-bytes (classOneOf u ++ w)
             ∙ ap (λ (v : List Bool). bytes (unordered false (classOneOf u ++ v))) two;
-        told = ea ∙ ap (λ (t : Bool). accepted (record { valid = t; corrected = corrected })) (sound-value g f);
+        told = ea ∙ ap (λ (t : Bool). accepted (record { valid = t; corrected = corrected })) (valid-value g f);
       }

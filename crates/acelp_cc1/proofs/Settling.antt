@@ -7,25 +7,19 @@ use native.Mathlib.Omega.{arith}
 use lib.ListN.{length, take, length-map, length-reverse}
 use lib.Seq.{length-take-le}
 use Rattle.bits.specs.Bits.{bits, byte, allBinary}
-use Rattle.bits.specs.Refusals.{Answer, refused, exactOf, binaryOf}
-use Rattle.bits.specs.declared.Lent.{Lent}
-use Rattle.bits.specs.declared.Lent.the-variants.{Fine, Refused}
+use Rattle.bits.specs.Refusals.{Answer, refused}
+use Rattle.bits.specs.Arguments.{exactOf, binaryOf}
+use Rattle.bits.specs.declared.arguments.Arguments.{Arguments}
+use Rattle.bits.specs.declared.arguments.Arguments.the-variants.{Passed, Refused}
 use Rattle.bits.specs.declared.Refusal.{Refusal}
 use Rattle.bits.specs.declared.Refusal.the-variants as refusal
 use Rattle.bits.proofs.Binary.{bits-bytes, bits-take, binary-bytes, binary-take}
-use Rattle.bits.proofs.Refusing.{never-both, fine-first, fine-exact, fine-binary}
+use Rattle.bits.proofs.Refusing.{never-both, passed-first, passed-exact, passed-binary}
 use Rattle.trellis.specs.Search.{FoundFirst}
 use Rattle.trellis.specs.Words.{Terminated}
 use Rattle.trellis.specs.declared.Outcome.{Outcome}
 use Rattle.puncturing.specs.Punctured.{weight}
-use Rattle.acelp_cc1.specs.Calls.{Told, lentDecode, frameWeight, Finished, Answered, Decoding}
-
-pub decode-fine : (frame : List ℕ) (room : ℕ) {ready : Lent} → ready ≡ lentDecode frame room → ready ≡ Fine
-    → (length frame ≡ 260) × (allBinary frame ≡ true) × (room ≡ 148)
-decode-fine frame room told e =
-    let f = fine-first (exactOf 260 (length frame)) _ (sym told ∙ e) in
-    let g = fine-first (exactOf 148 room) (binaryOf frame) (f .1) in
-    (sym (fine-exact 260 (length frame) (f .0)), fine-binary frame (g .1), sym (fine-exact 148 room (g .0)))
+use Rattle.acelp_cc1.specs.Calls.{Told, decodeArguments, frameWeight, Finished, Answered, Decoding}
 
 pub asks-search : (frame : List ℕ) → length frame ≡ 260 → allBinary frame ≡ true
     → (length (take 208 frame) ≡ 208) × (_≡_ {A = ℕ} 108 108) × (allBinary (take 208 frame) ≡ true)
@@ -57,7 +51,7 @@ module _ (frame speech₀ : List ℕ) {word : List ℕ} {r : Outcome} (s : Found
       }
 
 -- ---- `decode`
-module _ (frame speech₀ : List ℕ) {l : Lent} (told : l ≡ lentDecode frame (length speech₀)) where
+module _ (frame speech₀ : List ℕ) {l : Arguments} (told : l ≡ decodeArguments frame (length speech₀)) where
   pub declined-end : (why : Refusal) → l ≡ Refused why → Decoding frame speech₀ speech₀ (refused why)
   declined-end why e =
       record {
@@ -66,5 +60,5 @@ module _ (frame speech₀ : List ℕ) {l : Lent} (told : l ≡ lentDecode frame 
         settled = λ ef. never-both ef (sym told ∙ e);
       }
 
-  pub answered-end : l ≡ Fine → {speech : List ℕ} {answer : Answer Told} → Answered frame speech₀ speech answer → Decoding frame speech₀ speech answer
-  answered-end fine a = record { declined = λ y ey. never-both fine (told ∙ ey); unclear = λ ef. a .unclear; settled = λ ef. a .settled }
+  pub answered-end : l ≡ Passed → {speech : List ℕ} {answer : Answer Told} → Answered frame speech₀ speech answer → Decoding frame speech₀ speech answer
+  answered-end passed a = record { declined = λ y ey. never-both passed (told ∙ ey); unclear = λ ef. a .unclear; settled = λ ef. a .settled }

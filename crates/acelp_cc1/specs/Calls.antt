@@ -7,10 +7,11 @@ use lib.Dec.{eqb}
 use lib.ListN.{length, take, drop}
 use Rattle.bits.specs.Bits.{bits, bytes}
 use Rattle.bits.specs.Numbers.{packed}
-use Rattle.bits.specs.Refusals.{Answer, accepted, refused, firstOf, exactOf, binaryOf}
+use Rattle.bits.specs.Refusals.{Answer, accepted, refused}
+use Rattle.bits.specs.Arguments.{bitsAndRoom}
 use Rattle.bits.specs.Calls.{Written}
-use Rattle.bits.specs.declared.Lent.{Lent}
-use Rattle.bits.specs.declared.Lent.the-variants.{Fine, Refused}
+use Rattle.bits.specs.declared.arguments.Arguments.{Arguments}
+use Rattle.bits.specs.declared.arguments.Arguments.the-variants.{Passed, Refused}
 use Rattle.bits.specs.declared.Refusal.{Refusal}
 use Rattle.bits.specs.declared.Refusal.the-variants as refusal
 use Rattle.bits.specs.declared.Wrote.{Wrote}
@@ -22,15 +23,15 @@ use Rattle.acelp_cc1.specs.declared.Decoded.{Decoded}
 use Rattle.acelp_cc1.specs.declared.Decoded.the-variants as decoded
 
 -- ---- encode: each length, then the symbols
-abbrev pub lentEncode : List ℕ → ℕ → Lent
-lentEncode speech room = firstOf (exactOf 148 (length speech)) (firstOf (exactOf 260 room) (binaryOf speech))
+abbrev pub encodeArguments : List ℕ → ℕ → Arguments
+encodeArguments speech room = bitsAndRoom 148 speech 260 room
 
 abbrev pub Encoding : List ℕ → List ℕ → List ℕ → Wrote → Type 0
-Encoding speech frame₀ frame r = Written (lentEncode speech (length frame₀)) (bytes (frameOf (bits speech))) frame₀ frame r
+Encoding speech frame₀ frame r = Written (encodeArguments speech (length frame₀)) (bytes (frameOf (bits speech))) frame₀ frame r
 
 -- ---- decode
-abbrev pub lentDecode : List ℕ → ℕ → Lent
-lentDecode frame room = firstOf (exactOf 260 (length frame)) (firstOf (exactOf 148 room) (binaryOf frame))
+abbrev pub decodeArguments : List ℕ → ℕ → Arguments
+decodeArguments frame room = bitsAndRoom 260 frame 148 room
 
 -- what an accepted frame tells beside its bits; a bad checksum is a flag on an accepted frame
 pub record Told : Type 0 where
@@ -42,8 +43,8 @@ decodeAnswer (decoded.Accepted valid corrected) = accepted (record { valid = val
 decodeAnswer (decoded.Refused why) = refused why
 
 -- whether the checksum in inputs is that of their class-one bits
-unfoldable pub sound : List Bool → Bool
-sound inputs = eqb (packed (checkOf inputs)) (packed (parityOf (classOneOf inputs)))
+unfoldable pub inputsValid : List Bool → Bool
+inputsValid inputs = eqb (packed (checkOf inputs)) (packed (parityOf (classOneOf inputs)))
 
 -- The weight of a word, inputs newest first, is its disagreements with the 208 protected bits.
 abbrev pub frameWeight : List ℕ → List Bool → ℕ
@@ -54,12 +55,12 @@ pub record Settled (frame speech : List ℕ) (answer : Answer Told) : Type 0 whe
   pub word : List Bool
   pub nearest : Nearest (Terminated 108) (frameWeight frame) word
   pub written : speech ≡ bytes (unordered false (classOneOf (reverse word) ++ drop 208 (bits frame)))
-  pub told : answer ≡ accepted (record { valid = sound (reverse word); corrected = frameWeight frame word })
+  pub told : answer ≡ accepted (record { valid = inputsValid (reverse word); corrected = frameWeight frame word })
 
 -- the end of a decoding, with the inputs of a word
 pub record Finished (inputs : List Bool) (frame : List ℕ) (corrected : ℕ) (speech : List ℕ) (answer : Answer Told) : Type 0 where
   pub written : speech ≡ bytes (unordered false (classOneOf inputs ++ drop 208 (bits frame)))
-  pub told : answer ≡ accepted (record { valid = sound inputs; corrected = corrected })
+  pub told : answer ≡ accepted (record { valid = inputsValid inputs; corrected = corrected })
 
 -- a search that ended
 pub record Answered (frame speech₀ speech : List ℕ) (answer : Answer Told) : Type 0 where
@@ -68,7 +69,7 @@ pub record Answered (frame speech₀ speech : List ℕ) (answer : Answer Told) :
 
 -- refused with nothing written; Ambiguous exactly where two distinct words share the fewest disagreements; or settled
 pub record Decoding (frame speech₀ speech : List ℕ) (answer : Answer Told) : Type 0 where
-  pub declined : (why : Refusal) → lentDecode frame (length speech₀) ≡ Refused why → (answer ≡ refused why) × (speech ≡ speech₀)
-  pub unclear : lentDecode frame (length speech₀) ≡ Fine → Ambiguous (Terminated 108) (frameWeight frame)
+  pub declined : (why : Refusal) → decodeArguments frame (length speech₀) ≡ Refused why → (answer ≡ refused why) × (speech ≡ speech₀)
+  pub unclear : decodeArguments frame (length speech₀) ≡ Passed → Ambiguous (Terminated 108) (frameWeight frame)
       → (answer ≡ refused refusal.Ambiguous) × (speech ≡ speech₀)
-  pub settled : lentDecode frame (length speech₀) ≡ Fine → (Ambiguous (Terminated 108) (frameWeight frame) → ⊥) → Settled frame speech answer
+  pub settled : decodeArguments frame (length speech₀) ≡ Passed → (Ambiguous (Terminated 108) (frameWeight frame) → ⊥) → Settled frame speech answer

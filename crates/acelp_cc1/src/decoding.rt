@@ -7,11 +7,9 @@ use crate::places::information_positions;
 use crate::places::parity_positions;
 use crate::places::scatter;
 use crate::table::speech_order;
-use bits::Lent;
 use bits::Refusal;
-use bits::exact;
-use bits::first;
-use bits::only_bits;
+use bits::arguments::Arguments;
+use bits::arguments::bits_and_room;
 use bits::pack;
 use checksums::checksum7_of_bits;
 use puncturing::punctured;
@@ -22,16 +20,8 @@ ghost use lib.ListN.{drop, length};
 ghost use Rattle.bits.specs.Bits.{allBinary, bits, bytes};
 ghost use Rattle.bits.specs.Numbers.{packed};
 ghost use Rattle.bits.specs.Refusals.{accepted};
-ghost use Rattle.acelp_cc1.specs.Calls.{Answered, Decoding, Finished, decodeAnswer, lentDecode};
+ghost use Rattle.acelp_cc1.specs.Calls.{Answered, Decoding, Finished, decodeAnswer};
 ghost use Rattle.acelp_cc1.specs.Frames.{checkOf, classOneOf};
-
-fn lent_decode(frame: &[u8], room: usize) -> Lent
-    ensures { λ r. ⌜ r ≡ lentDecode (now (frame .entry)) room ⌝ }
-{
-    let length = exact(260, frame.len());
-    let space = exact(148, room);
-    first(length, first(space, only_bits(frame)))
-}
 
 // Writes the ordered bits: the class-one bits of the inputs, and class two as received.
 fn restore(inputs: &[u8], frame: &[u8], sorted: &mut [u8])
@@ -95,8 +85,8 @@ fn answer(frame: &[u8], speech: &mut [u8]) -> Decoded
 pub fn decode(frame: &[u8], speech: &mut [u8]) -> Decoded
     ensures { λ r. ⌜ Decoding (now (frame .entry)) (now (speech .entry)) (now (speech .exit)) (decodeAnswer r) ⌝ }
 {
-    let ready = lent_decode(frame, speech.len());
-    if let Lent::Refused(why) = ready {
+    let ready = bits_and_room(260, frame, 148, speech.len());
+    if let Arguments::Refused(why) = ready {
         return Decoded::Refused(why);
     }
     answer(frame, speech)

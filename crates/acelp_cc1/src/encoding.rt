@@ -6,11 +6,9 @@ use crate::places::information_positions;
 use crate::places::parity_positions;
 use crate::places::scatter;
 use crate::table::speech_order;
-use bits::Lent;
 use bits::Wrote;
-use bits::exact;
-use bits::first;
-use bits::only_bits;
+use bits::arguments::Arguments;
+use bits::arguments::bits_and_room;
 use bits::unpack;
 use checksums::checksum7_of_bits;
 use coding::acelp::line_outputs;
@@ -24,17 +22,9 @@ ghost use Rattle.bits.specs.Bits.{allBinary, bits, bytes};
 ghost use Rattle.coding.specs.Codes.{acelp, coded};
 ghost use Rattle.coding.specs.Registers.{memoryLow};
 ghost use Rattle.puncturing.specs.Punctured.{sentOf};
-ghost use Rattle.acelp_cc1.specs.Calls.{Encoding, lentEncode};
+ghost use Rattle.acelp_cc1.specs.Calls.{Encoding};
 ghost use Rattle.acelp_cc1.specs.Frames.{frameOf, inputsOf, ordered};
 ghost use Rattle.acelp_cc1.specs.Places.{byTurns};
-
-fn lent_encode(speech: &[u8], room: usize) -> Lent
-    ensures { λ r. ⌜ r ≡ lentEncode (now (speech .entry)) room ⌝ }
-{
-    let length = exact(148, speech.len());
-    let space = exact(260, room);
-    first(length, first(space, only_bits(speech)))
-}
 
 // Writes codec bits in the speech order.
 fn order(speech: &[u8], sorted: &mut [u8])
@@ -111,8 +101,8 @@ fn write_frame(speech: &[u8], frame: &mut [u8])
 pub fn encode(speech: &[u8], frame: &mut [u8]) -> Wrote
     ensures { λ r. ⌜ Encoding (now (speech .entry)) (now (frame .entry)) (now (frame .exit)) r ⌝ }
 {
-    let ready = lent_encode(speech, frame.len());
-    if let Lent::Refused(why) = ready {
+    let ready = bits_and_room(148, speech, 260, frame.len());
+    if let Arguments::Refused(why) = ready {
         return Wrote::Refused(why);
     }
     write_frame(speech, frame);

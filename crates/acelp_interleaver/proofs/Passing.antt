@@ -5,23 +5,12 @@ use Prim.Native.Nat.{ℕ, _+_, _-_, _*_, _/_, _%_, _<_, _≤_}
 use native.Mathlib.Omega.{arith}
 use lib.ListN.{length, getD, set, drop}
 use lib.Seq.{getD-take, getD-drop}
-use Rattle.bits.specs.Refusals.{exactOf, binaryOf}
-use Rattle.bits.specs.declared.Lent.{Lent}
-use Rattle.bits.specs.declared.Lent.the-variants.{Fine}
-use Rattle.bits.proofs.Refusing.{fine-first, fine-exact}
 use Rattle.bits.proofs.Filled.{Filling}
 use Rattle.bits.proofs.Scattered.{Scattering, scattering-more, scattering-all, permutes-stands, filled-listed}
 use Rattle.interleaving.specs.Slots.{carried, collected}
-use Rattle.acelp_interleaver.specs.Wire.{table, placeAt, wireOf, ageOf, third, lentThree, interleaved, deinterleaved}
+use Rattle.acelp_interleaver.specs.Wire.{table, placeAt, wireOf, ageOf, third, interleaved, deinterleaved}
 use Rattle.acelp_interleaver.specs.declared.Interleaving.{Interleaving}
 use Rattle.acelp_interleaver.proofs.Table.{order, passed, size, at, place-below}
-
--- what Fine says of the calls
-pub three-fine : (l : List ℕ) (room : ℕ) {ready : Lent} → ready ≡ lentThree l room → ready ≡ Fine → (length l ≡ 780) × (room ≡ 260)
-three-fine l room told e =
-    let f = fine-first (exactOf 780 (length l)) _ (sym told ∙ e) in
-    let g = fine-first (exactOf 260 room) (binaryOf l) (f .1) in
-    (sym (fine-exact 780 (length l) (f .0)), sym (fine-exact 260 room (g .0)))
 
 -- the table has 26 rows of ten
 pub table-rows : (places : List (List ℕ)) → places ≡ table → length places ≡ 26

@@ -7,8 +7,8 @@ use lib.ListN.{length, take, drop}
 use lib.Seq.{take-at, drop-at, drop-drop, take-all}
 use Rattle.bits.specs.Calls.{Written, wroteAnswer}
 use Rattle.bits.specs.Refusals.{accepted}
-use Rattle.bits.specs.declared.Lent.{Lent}
-use Rattle.bits.specs.declared.Lent.the-variants.{Fine, Refused}
+use Rattle.bits.specs.declared.arguments.Arguments.{Arguments}
+use Rattle.bits.specs.declared.arguments.Arguments.the-variants.{Passed, Refused}
 use Rattle.bits.specs.declared.Wrote.{Wrote}
 use Rattle.interleaving.proofs.RoundTrip.{collected-carried}
 use Rattle.acelp_interleaver.specs.Wire.{placeAt, wireOf, slotsOf, ageOf, third, interleaved, deinterleaved, InterleavingCall, DeinterleavingCall}
@@ -73,8 +73,8 @@ round-trip {A} d mode frame slot lf ls carry =
     same (suc (suc (suc k))) h = absurd (omega arith)
 
 -- ---- the calls
-done-written : (lent : Lent) {result buffer₀ buffer : List ℕ} {r : Wrote} → Written lent result buffer₀ buffer r → wroteAnswer r ≡ accepted tt → buffer ≡ result
-done-written Fine w e = w .done refl .1
+done-written : (arguments : Arguments) {result buffer₀ buffer : List ℕ} {r : Wrote} → Written arguments result buffer₀ buffer r → wroteAnswer r ≡ accepted tt → buffer ≡ result
+done-written Passed w e = w .done refl .1
 done-written (Refused why) w e = let d = w .declined why refl .0 in let z : _≡_ {A = ℕ} 0 1 = cc in absurd (omega arith)
 
 -- where each call is done

@@ -3,9 +3,9 @@ use mathlib.Core.List.{List, [], _∷_}
 use Prim.Native.Nat.{ℕ, _-_, _*_, _/_, _%_}
 use lib.ListN.{length, getD, take, drop}
 use Rattle.bits.specs.Places.{listed, placeIn}
-use Rattle.bits.specs.Refusals.{firstOf, exactOf, binaryOf}
+use Rattle.bits.specs.Arguments.{bitsAndRoom}
 use Rattle.bits.specs.Calls.{Written}
-use Rattle.bits.specs.declared.Lent.{Lent}
+use Rattle.bits.specs.declared.arguments.Arguments.{Arguments}
 use Rattle.bits.specs.declared.Wrote.{Wrote}
 use Rattle.interleaving.specs.Slots.{carried, collected}
 use Rattle.acelp_interleaver.specs.declared.Interleaving.{Interleaving}
@@ -71,11 +71,11 @@ unfoldable pub deinterleaved : {A : Type 0} → A → List A → Interleaving �
 deinterleaved d slots mode = collected d wireOf (λ (row : ℕ). third slots (ageOf mode row))
 
 -- ---- the calls: a slice of three and room for one, each length, then the symbols, also those that the mode does not read
-abbrev pub lentThree : List ℕ → ℕ → Lent
-lentThree l room = firstOf (exactOf 780 (length l)) (firstOf (exactOf 260 room) (binaryOf l))
+abbrev pub threeArguments : List ℕ → ℕ → Arguments
+threeArguments l room = bitsAndRoom 780 l 260 room
 
 abbrev pub InterleavingCall : List ℕ → Interleaving → List ℕ → List ℕ → Wrote → Type 0
-InterleavingCall history mode slot₀ slot r = Written (lentThree history (length slot₀)) (interleaved 0 history mode) slot₀ slot r
+InterleavingCall history mode slot₀ slot r = Written (threeArguments history (length slot₀)) (interleaved 0 history mode) slot₀ slot r
 
 abbrev pub DeinterleavingCall : List ℕ → Interleaving → List ℕ → List ℕ → Wrote → Type 0
-DeinterleavingCall slots mode frame₀ frame r = Written (lentThree slots (length frame₀)) (deinterleaved 0 slots mode) frame₀ frame r
+DeinterleavingCall slots mode frame₀ frame r = Written (threeArguments slots (length frame₀)) (deinterleaved 0 slots mode) frame₀ frame r

@@ -1,14 +1,12 @@
 // The slot order of ACELP CC1 (TIA/EIA-136-410 4.4). The contracts cite specs/.
 // Ported from 136-bts, acelp_cc1.rs, and changed (see NOTICE).
-use bits::Lent;
 use bits::Wrote;
-use bits::exact;
-use bits::first;
-use bits::only_bits;
+use bits::arguments::Arguments;
+use bits::arguments::bits_and_room;
 ghost use mathlib.Core.Path.{_≡_};
 ghost use Prim.Native.Nat.{_-_, _<_};
 ghost use lib.ListN.{length};
-ghost use Rattle.acelp_interleaver.specs.Wire.{DeinterleavingCall, InterleavingCall, ageOf, deinterleaved, interleaved, lentThree, placeAt, table};
+ghost use Rattle.acelp_interleaver.specs.Wire.{DeinterleavingCall, InterleavingCall, ageOf, deinterleaved, interleaved, placeAt, table};
 
 // Over how many slots a frame is spread.
 pub enum Interleaving {
@@ -79,14 +77,6 @@ fn slot_of(mode: Interleaving, row: usize) -> usize
     age(mode, row)
 }
 
-fn lent_three(s: &[u8], room: usize) -> Lent
-    ensures { λ r. ⌜ r ≡ lentThree (now (s .entry)) room ⌝ }
-{
-    let length = exact(780, s.len());
-    let space = exact(260, room);
-    first(length, first(space, only_bits(s)))
-}
-
 // The place in the frame of the bit that a bit of the slot carries.
 fn place(places: &[[u16; 10]], wire: usize) -> usize
     requires { ⌜ (now places ≡ table) × (wire < 260) ⌝ }
@@ -123,8 +113,8 @@ fn scatter(places: &[[u16; 10]], slots: &[u8], mode: Interleaving, frame: &mut [
 pub fn interleave(history: &[u8], mode: Interleaving, slot: &mut [u8]) -> Wrote
     ensures { λ r. ⌜ InterleavingCall (now (history .entry)) mode (now (slot .entry)) (now (slot .exit)) r ⌝ }
 {
-    let ready = lent_three(history, slot.len());
-    if let Lent::Refused(why) = ready {
+    let ready = bits_and_room(780, history, 260, slot.len());
+    if let Arguments::Refused(why) = ready {
         return Wrote::Refused(why);
     }
     let places = interleaver();
@@ -136,8 +126,8 @@ pub fn interleave(history: &[u8], mode: Interleaving, slot: &mut [u8]) -> Wrote
 pub fn deinterleave(slots: &[u8], mode: Interleaving, frame: &mut [u8]) -> Wrote
     ensures { λ r. ⌜ DeinterleavingCall (now (slots .entry)) mode (now (frame .entry)) (now (frame .exit)) r ⌝ }
 {
-    let ready = lent_three(slots, frame.len());
-    if let Lent::Refused(why) = ready {
+    let ready = bits_and_room(780, slots, 260, frame.len());
+    if let Arguments::Refused(why) = ready {
         return Wrote::Refused(why);
     }
     let places = interleaver();

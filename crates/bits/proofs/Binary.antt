@@ -10,7 +10,7 @@ use lib.Dec.{eqb, ltb}
 use lib.ListN.{length, getD, take, drop, drop-of-length-le}
 use lib.Seq.{drop-cons}
 use borrow.Author.Tests.{ltb-true, lt-ltb, le-ltb}
-use Rattle.bits.proofs.Passing.{Tests}
+use Rattle.bits.proofs.Below.{below-none, below-head, below-tail, below-cons, below-at, below-take, below-drop}
 use Rattle.bits.specs.Bits.{byte, bit, bytes, bits, allBinary, differ}
 
 -- ---- one bit
@@ -60,40 +60,27 @@ bits-append [] w = refl
 bits-append (b ∷ u) w = ap (λ (l : List Bool). bit b ∷ l) (bits-append u w)
 
 -- ---- allBinary
-pub cond-and : (a b : Bool) → cond a b false ≡ (a && b)
-cond-and true b = refl
-cond-and false b = refl
+abbrev pub binary-head : (x : ℕ) (l : List ℕ) → allBinary (x ∷ l) ≡ true → x < 2
+binary-head = below-head 2
 
-pub cond-true : (a b : Bool) → cond a b false ≡ true → (a ≡ true) × (b ≡ true)
-cond-true true b e = (refl, e)
-cond-true false b e = absurd (false≢true e)
+abbrev pub binary-tail : (x : ℕ) (l : List ℕ) → allBinary (x ∷ l) ≡ true → allBinary l ≡ true
+binary-tail = below-tail 2
 
-pub binary-head : (x : ℕ) (l : List ℕ) → allBinary (x ∷ l) ≡ true → x < 2
-unfolding allBinary
-binary-head x l e = ltb-true x 2 (cond-true (ltb x 2) (allBinary l) e .0)
+abbrev pub binary-cons : (x : ℕ) (l : List ℕ) → x < 2 → allBinary (x ∷ l) ≡ allBinary l
+binary-cons = below-cons 2
 
-pub binary-tail : (x : ℕ) (l : List ℕ) → allBinary (x ∷ l) ≡ true → allBinary l ≡ true
-unfolding allBinary
-binary-tail x l e = cond-true (ltb x 2) (allBinary l) e .1
+abbrev pub binary-at : (l : List ℕ) → allBinary l ≡ true → (k : ℕ) → k < length l → getD l k 0 < 2
+binary-at = below-at 2
 
-pub binary-cons : (x : ℕ) (l : List ℕ) → x < 2 → allBinary (x ∷ l) ≡ allBinary l
-unfolding allBinary
-binary-cons x l h = rw (lt-ltb x 2 h)
+abbrev pub binary-take : (n : ℕ) (l : List ℕ) → allBinary l ≡ true → allBinary (take n l) ≡ true
+binary-take = below-take 2
 
-pub not-binary : (x : ℕ) (l : List ℕ) → 1 < x → allBinary (x ∷ l) ≡ false
-unfolding allBinary
-not-binary x l h = rw (le-ltb x 2 h)
-
-pub binary-at : (l : List ℕ) → allBinary l ≡ true → (k : ℕ) → k < length l → getD l k 0 < 2
-binary-at [] e k h = absurd (not-suc-le-zero h)
-binary-at (x ∷ l) e zero h = binary-head x l e
-binary-at (x ∷ l) e (suc k) h = binary-at l (binary-tail x l e) k (omega arith)
+abbrev pub binary-drop : (n : ℕ) (l : List ℕ) → allBinary l ≡ true → allBinary (drop n l) ≡ true
+binary-drop = below-drop 2
 
 pub binary-bytes : (w : List Bool) → allBinary (bytes w) ≡ true
-unfolding allBinary
-binary-bytes [] = refl
-binary-bytes (false ∷ w) = binary-bytes w
-binary-bytes (true ∷ w) = binary-bytes w
+binary-bytes [] = below-none 2
+binary-bytes (b ∷ w) = binary-cons (byte b) (bytes w) (byte-below b) ∙ binary-bytes w
 
 pub bytes-bits : (l : List ℕ) → allBinary l ≡ true → bytes (bits l) ≡ l
 bytes-bits [] e = refl
@@ -122,11 +109,6 @@ differ-other false true n = refl
 differ-other true false n = refl
 differ-other true true n = absurd (n refl)
 
--- ---- as a test of each byte
-pub binary-tests : Tests allBinary (λ x. ltb x 2)
-unfolding allBinary
-binary-tests = record { none = refl; one = λ x l. cond-and (ltb x 2) (allBinary l) }
-
 -- ---- parts of a list
 pub bits-take : (n : ℕ) (l : List ℕ) → bits (take n l) ≡ take n (bits l)
 bits-take zero l = refl
@@ -137,15 +119,3 @@ pub bits-drop : (n : ℕ) (l : List ℕ) → bits (drop n l) ≡ drop n (bits l)
 bits-drop zero l = refl
 bits-drop (suc n) [] = refl
 bits-drop (suc n) (x ∷ l) = bits-drop n l
-
-pub binary-take : (n : ℕ) (l : List ℕ) → allBinary l ≡ true → allBinary (take n l) ≡ true
-unfolding allBinary
-binary-take zero l e = refl
-binary-take (suc n) [] e = refl
-binary-take (suc n) (x ∷ l) e = binary-cons x (take n l) (binary-head x l e) ∙ binary-take n l (binary-tail x l e)
-
-pub binary-drop : (n : ℕ) (l : List ℕ) → allBinary l ≡ true → allBinary (drop n l) ≡ true
-unfolding allBinary
-binary-drop zero l e = e
-binary-drop (suc n) [] e = refl
-binary-drop (suc n) (x ∷ l) e = binary-drop n l (binary-tail x l e)

@@ -7,7 +7,9 @@ pub mod Scattered
 pub mod Passing
 pub mod LentPart
 pub mod Ring
+pub mod Below
 pub mod Binary
+pub mod Erased
 pub mod Packed
 pub mod Tally
 pub mod Refusing

@@ -7,12 +7,12 @@ use native.Mathlib.Omega.{arith}
 use native.Mathlib.Nat.{pow-suc, mul-assoc, mul-comm, add-assoc, add-mul, zero-mul, zero-add, mod-eq-of-lt, div-one, div-div-eq-div-mul}
 use lib.Pow as pow
 use native.Mathlib.Numerals.{add-one}
-use lib.ListN.{length, getD, set, take, drop, length-append, length-map, length-set}
+use lib.ListN.{length, getD, set, take, drop, length-append, length-map, length-set, length-take}
 use lib.Seq.{length-take-le, take-all, take-suc, drop-length}
 use Rattle.bits.specs.Bits.{byte, bit, bytes, bits, allBinary}
 use Rattle.bits.specs.Numbers.{packed, unpacked}
 use Rattle.bits.proofs.Filled.{drop-set-here}
-use Rattle.bits.proofs.Binary.{byte-bit, byte-bit-any, bit-above, binary-at, bits-append}
+use Rattle.bits.proofs.Binary.{byte-bit, byte-bit-any, bit-above, binary-at, binary-take, binary-drop, bits-append, bits-take, bits-drop}
 
 pub unpacked-length : (n x : ℕ) → length (unpacked n x) ≡ n
 unfolding unpacked
@@ -151,3 +151,15 @@ module _ {value : ℕ} {s₀ s : List ℕ} {rest k : ℕ} (i : Unpacking value s
       let e : k ≡ 0 = omega arith in
       let f : length s₀ - k ≡ length s₀ = omega arith in
       ap (λ (n : ℕ). drop n s) (sym e) ∙ i .written ∙ ap (λ (n : ℕ). bytes (unpacked n value)) f
+
+-- ---- numbers in a list
+-- the n bytes from a place on, as bits
+pub part-bits : (n at : ℕ) (l : List ℕ) → bits (take (at + n - at) (drop at l)) ≡ take n (drop at (bits l))
+part-bits n at l =
+    let e : at + n - at ≡ n = omega arith in
+    bits-take (at + n - at) (drop at l) ∙ ap₂ (λ (k : ℕ) (u : List Bool). take k u) e (bits-drop at l)
+
+-- what `pack` asks
+pub asks-pack : (n at : ℕ) (l : List ℕ) → n ≤ 64 → allBinary l ≡ true
+    → (length (take (at + n - at) (drop at l)) ≤ 64) × (allBinary (take (at + n - at) (drop at l)) ≡ true)
+asks-pack n at l h b = (omega (arith, length-take (at + n - at) (drop at l)), binary-take (at + n - at) (drop at l) (binary-drop at l b))

@@ -19,10 +19,14 @@ bytes w = map byte w
 abbrev pub bits : List ℕ → List Bool
 bits l = map bit l
 
+-- every number is below n
+unfoldable pub allBelow : ℕ → List ℕ → Bool
+allBelow n [] = true
+allBelow n (x ∷ l) = cond (ltb x n) (allBelow n l) false
+
 -- every byte is 0 or 1
-unfoldable pub allBinary : List ℕ → Bool
-allBinary [] = true
-allBinary (x ∷ l) = cond (ltb x 2) (allBinary l) false
+abbrev pub allBinary : List ℕ → Bool
+allBinary l = allBelow 2 l
 
 -- the sum modulo 2 of two bits
 infixl 25 _⊕_

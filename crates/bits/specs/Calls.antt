@@ -3,8 +3,8 @@ use mathlib.Core.Path.{_≡_}
 use mathlib.Core.List.{List}
 use Prim.Native.Nat.{ℕ}
 use Rattle.bits.specs.Refusals.{Answer, accepted, refused}
-use Rattle.bits.specs.declared.Lent.{Lent}
-use Rattle.bits.specs.declared.Lent.the-variants.{Fine, Refused}
+use Rattle.bits.specs.declared.arguments.Arguments.{Arguments}
+use Rattle.bits.specs.declared.arguments.Arguments.the-variants.{Passed, Refused}
 use Rattle.bits.specs.declared.Refusal.{Refusal}
 use Rattle.bits.specs.declared.Wrote.{Wrote}
 use Rattle.bits.specs.declared.Wrote.the-variants as wrote
@@ -15,6 +15,6 @@ wroteAnswer wrote.Done = accepted tt
 wroteAnswer (wrote.Refused why) = refused why
 
 -- refused with nothing written, or accepted with the result in the buffer
-pub record Written (lent : Lent) (result buffer₀ buffer : List ℕ) (r : Wrote) : Type 0 where
-  pub declined : (why : Refusal) → lent ≡ Refused why → (wroteAnswer r ≡ refused why) × (buffer ≡ buffer₀)
-  pub done : lent ≡ Fine → (wroteAnswer r ≡ accepted tt) × (buffer ≡ result)
+pub record Written (arguments : Arguments) (result buffer₀ buffer : List ℕ) (r : Wrote) : Type 0 where
+  pub declined : (why : Refusal) → arguments ≡ Refused why → (wroteAnswer r ≡ refused why) × (buffer ≡ buffer₀)
+  pub done : arguments ≡ Passed → (wroteAnswer r ≡ accepted tt) × (buffer ≡ result)

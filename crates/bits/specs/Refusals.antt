@@ -1,12 +1,6 @@
 -- The refusals of document 01 by number, and what a call can answer.
-use mathlib.Core.Bool.{Bool, cond}
-use mathlib.Core.List.{List}
 use Prim.Native.Nat.{ℕ}
-use lib.Dec.{eqb, ltb}
-use Rattle.bits.specs.Bits.{allBinary}
 use Rattle.bits.specs.declared.Refusal.{Refusal}
-use Rattle.bits.specs.declared.Lent.{Lent}
-use Rattle.bits.specs.declared.Lent.the-variants.{Fine, Refused}
 use Rattle.bits.specs.declared.Refusal.the-variants.{Length, Symbol, Crc, InsufficientObservations, Ambiguous, Reserved, Line, State}
 
 -- document 01, 'Numbers from the input' and 'Numbers from the state'
@@ -48,24 +42,3 @@ pub data Answer (A : Type 0) : Type 0 where
   pending : Answer A
   rejected : Refusal → Answer A
   refused : Refusal → Answer A
-
--- ---- what a call was lent: fine, or the first refusal among its tests, in document 01's order
-abbrev pub firstOf : Lent → Lent → Lent
-firstOf (Refused why) later = Refused why
-firstOf Fine later = later
-
--- Length where a slice has not the exact length
-abbrev pub exactOf : ℕ → ℕ → Lent
-exactOf expected actual = cond (eqb expected actual) Fine (Refused (Length expected actual))
-
--- Symbol unless a test is passed
-abbrev pub symbolUnless : Bool → Lent
-symbolUnless passed = cond passed Fine (Refused Symbol)
-
--- Symbol where a byte is no bit
-abbrev pub binaryOf : List ℕ → Lent
-binaryOf l = symbolUnless (allBinary l)
-
--- Symbol where a number is not below its limit
-abbrev pub belowOf : ℕ → ℕ → Lent
-belowOf limit x = symbolUnless (ltb x limit)

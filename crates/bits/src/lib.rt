@@ -1,13 +1,15 @@
 // Bits as bytes 0 and 1, numbers as bits, and the refusals that every crate answers with. The contracts cite specs/.
+// What a call tests first is in `arguments`, bits of which some were not observed in `observed`, document 01's numbers in `refusals`.
+pub mod arguments;
+pub mod observed;
 pub mod refusals;
 
 ghost use mathlib.Core.Path.{_≡_};
 ghost use mathlib.Core.Bool.{true, _&&_};
 ghost use Prim.Native.Nat.{_<_, _≤_};
 ghost use lib.ListN.{length};
-ghost use Rattle.bits.specs.Bits.{allBinary, bit, bits, bytes, differ, disagreements};
+ghost use Rattle.bits.specs.Bits.{allBelow, allBinary, bit, bits, bytes, differ, disagreements};
 ghost use Rattle.bits.specs.Numbers.{packed, unpacked};
-ghost use Rattle.bits.specs.Refusals.{belowOf, binaryOf, exactOf, firstOf, symbolUnless};
 
 // Why a call is refused. `crate::refusals::number` gives document 01's number of each.
 pub enum Refusal {
@@ -23,62 +25,10 @@ pub enum Refusal {
     State,
 }
 
-// Whether a call can go on with what it was lent.
-pub enum Lent {
-    Fine,
-    Refused(Refusal),
-}
-
 // What a call that writes bits answers.
 pub enum Wrote {
     Done,
     Refused(Refusal),
-}
-
-// The first refusal of two tests.
-pub fn first(earlier: Lent, later: Lent) -> Lent
-    ensures { λ r. ⌜ r ≡ firstOf earlier later ⌝ }
-{
-    match earlier {
-        Lent::Refused(why) => Lent::Refused(why),
-        Lent::Fine => later,
-    }
-}
-
-// Refused where a slice has not the exact length.
-pub fn exact(wanted: usize, given: usize) -> Lent
-    ensures { λ r. ⌜ r ≡ exactOf wanted given ⌝ }
-{
-    if wanted == given {
-        return Lent::Fine;
-    }
-    Lent::Refused(Refusal::Length {
-        expected: wanted,
-        actual: given,
-    })
-}
-
-fn symbol_unless(passed: bool) -> Lent
-    ensures { λ r. ⌜ r ≡ symbolUnless passed ⌝ }
-{
-    if passed {
-        return Lent::Fine;
-    }
-    Lent::Refused(Refusal::Symbol)
-}
-
-// Refused where a byte is no bit.
-pub fn only_bits(s: &[u8]) -> Lent
-    ensures { λ r. ⌜ r ≡ binaryOf (now (s .entry)) ⌝ }
-{
-    symbol_unless(all_binary(s))
-}
-
-// Refused where a number is not below its limit.
-pub fn below(limit: u64, x: u64) -> Lent
-    ensures { λ r. ⌜ r ≡ belowOf limit x ⌝ }
-{
-    symbol_unless(x < limit)
 }
 
 // A byte as an index.
@@ -95,15 +45,22 @@ pub fn both(a: bool, b: bool) -> bool
     if a { b } else { false }
 }
 
+// Whether every byte is below a limit.
+pub fn all_below(limit: u8, s: &[u8]) -> bool
+    ensures { λ r. ⌜ r ≡ allBelow limit (now (s .entry)) ⌝ }
+{
+    let mut passed = true;
+    for i in 0..s.len() {
+        passed = both(passed, s[i] < limit);
+    }
+    passed
+}
+
 // Whether every byte is 0 or 1.
 pub fn all_binary(s: &[u8]) -> bool
     ensures { λ r. ⌜ r ≡ allBinary (now (s .entry)) ⌝ }
 {
-    let mut binary = true;
-    for i in 0..s.len() {
-        binary = both(binary, s[i] < 2);
-    }
-    binary
+    all_below(2, s)
 }
 
 // The number that bits write, the first highest.

@@ -1,10 +1,12 @@
 // DCCH blocks.
+use flat_coding::calls::Written;
 use flat_dcch::Block;
 ghost use Rattle.dcch.specs.Blocks.{Decoding, Encoding};
 ghost use Rattle.dcch.specs.SoftBlocks.{SoftDecoding};
 ghost use Rattle.dcch_interleaver.specs.declared.BlockFormat.the-variants.{Forward, ReverseAbbreviated, ReverseNormal};
+ghost use Rattle.flat_coding.specs.Calls.{FlatWrote};
 ghost use Rattle.flat_coding.specs.Flat.{modeOf};
-ghost use Rattle.flat_dcch.specs.Blocks.{FlatDecoded, FlatEncoded};
+ghost use Rattle.flat_dcch.specs.Blocks.{FlatDecoded};
 
 #[no_mangle]
 pub extern "C" fn bts136_dcch_encode_forward(
@@ -12,8 +14,8 @@ pub extern "C" fn bts136_dcch_encode_forward(
     dvcc: u8,
     broadcast: bool,
     block: &mut [u8],
-) -> Block
-    ensures { λ r. ⌜ FlatEncoded (Encoding Forward (now (information .entry)) dvcc (modeOf broadcast) (now (block .entry)) (now (block .exit))) r ⌝ }
+) -> Written
+    ensures { λ r. ⌜ FlatWrote (Encoding Forward (now (information .entry)) dvcc (modeOf broadcast) (now (block .entry)) (now (block .exit))) r ⌝ }
 {
     flat_dcch::encode_forward(information, dvcc, broadcast, block)
 }
@@ -24,8 +26,8 @@ pub extern "C" fn bts136_dcch_encode_reverse_normal(
     dvcc: u8,
     broadcast: bool,
     block: &mut [u8],
-) -> Block
-    ensures { λ r. ⌜ FlatEncoded (Encoding ReverseNormal (now (information .entry)) dvcc (modeOf broadcast) (now (block .entry)) (now (block .exit))) r ⌝ }
+) -> Written
+    ensures { λ r. ⌜ FlatWrote (Encoding ReverseNormal (now (information .entry)) dvcc (modeOf broadcast) (now (block .entry)) (now (block .exit))) r ⌝ }
 {
     flat_dcch::encode_reverse_normal(information, dvcc, broadcast, block)
 }
@@ -36,8 +38,8 @@ pub extern "C" fn bts136_dcch_encode_reverse_abbreviated(
     dvcc: u8,
     broadcast: bool,
     block: &mut [u8],
-) -> Block
-    ensures { λ r. ⌜ FlatEncoded (Encoding ReverseAbbreviated (now (information .entry)) dvcc (modeOf broadcast) (now (block .entry)) (now (block .exit))) r ⌝ }
+) -> Written
+    ensures { λ r. ⌜ FlatWrote (Encoding ReverseAbbreviated (now (information .entry)) dvcc (modeOf broadcast) (now (block .entry)) (now (block .exit))) r ⌝ }
 {
     flat_dcch::encode_reverse_abbreviated(information, dvcc, broadcast, block)
 }

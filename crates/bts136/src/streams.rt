@@ -6,7 +6,7 @@ use flat_sacch::Receiver;
 use flat_sacch::Word;
 use sacch::SacchEncoder;
 ghost use mathlib.Core.Path.{_≡_};
-ghost use Rattle.sacch_decoder.specs.Decoding.{decoding, lentDecode};
+ghost use Rattle.sacch_decoder.specs.Decoding.{decoding, decodeArguments};
 ghost use Rattle.sacch_encoder.specs.Encoder.{encodeBitsOf, encodeWordOf, freshEncoder};
 ghost use Rattle.sacch_receiver.specs.Receiver.{freshReceiver, pushOf, pushWordOf};
 ghost use Rattle.flat_sacch.specs.Flat.{flatField, flatFields, flatMoved, flatReceiver, flatWord, receiverOf};
@@ -46,7 +46,7 @@ pub extern "C" fn bts136_sacch_encode_word(
 
 #[no_mangle]
 pub extern "C" fn bts136_sacch_decode(coded: &[u8], dvcc: u8) -> Word
-    ensures { λ r. ⌜ r ≡ flatWord (decoding (lentDecode (now (coded .entry))) (now (coded .entry)) dvcc) ⌝ }
+    ensures { λ r. ⌜ r ≡ flatWord (decoding (decodeArguments (now (coded .entry))) (now (coded .entry)) dvcc) ⌝ }
 {
     flat_sacch::decode(coded, dvcc)
 }

@@ -2,7 +2,7 @@
 use flat_coding::calls::Written;
 use flat_facch::Word;
 ghost use Rattle.facch.specs.Decoding.{Decoding};
-ghost use Rattle.facch.specs.Received.{lentDecode, lentErased};
+ghost use Rattle.facch.specs.Decoding.{decodeArguments, erasedArguments};
 ghost use Rattle.facch_interleaver.specs.Wire.{Deinterleaving, Interleaving, Observing};
 ghost use Rattle.facch_interleaver.specs.declared.WordHalf.the-variants.{End, Start};
 ghost use Rattle.facch.specs.Words.{Encoding};
@@ -59,14 +59,14 @@ pub extern "C" fn bts136_facch_observe_end(slot: &[u8], coded: &mut [u8]) -> Wri
 
 #[no_mangle]
 pub extern "C" fn bts136_facch_decode(coded: &[u8], dvcc: u8) -> Word
-    ensures { λ r. ⌜ FlatDecoded (Decoding (lentDecode (now (coded .entry))) (now (coded .entry)) dvcc) r ⌝ }
+    ensures { λ r. ⌜ FlatDecoded (Decoding (decodeArguments (now (coded .entry))) (now (coded .entry)) dvcc) r ⌝ }
 {
     flat_facch::decode(coded, dvcc)
 }
 
 #[no_mangle]
 pub extern "C" fn bts136_facch_decode_erased(coded: &[u8], dvcc: u8) -> Word
-    ensures { λ r. ⌜ FlatDecoded (Decoding (lentErased (now (coded .entry))) (now (coded .entry)) dvcc) r ⌝ }
+    ensures { λ r. ⌜ FlatDecoded (Decoding (erasedArguments (now (coded .entry))) (now (coded .entry)) dvcc) r ⌝ }
 {
     flat_facch::decode_erased(coded, dvcc)
 }

@@ -3,3 +3,4 @@ pub mod Division
 pub mod Shifting
 pub mod Fours
 pub mod Answers
+pub mod Tested

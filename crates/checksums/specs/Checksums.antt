@@ -2,7 +2,8 @@
 use mathlib.Core.Bool.{Bool, true, false, cond}
 use mathlib.Core.List.{List, [], _∷_, _++_}
 use Prim.Native.Nat.{ℕ, zero, suc, _-_}
-use lib.ListN.{length, replicate}
+use lib.Dec.{eqb}
+use lib.ListN.{length, take, drop, replicate}
 use Rattle.bits.specs.Bits.{bits, allBinary, _⊕_}
 use Rattle.bits.specs.Numbers.{packed, unpacked}
 use Rattle.bits.specs.Refusals.{Answer, accepted, refused}
@@ -49,6 +50,10 @@ complemented Addressed x = x
 -- the 16-bit checksum of information under a colour code, whose eight bits go first
 unfoldable pub checksumOf : List Bool → ℕ → CrcMode → ℕ
 checksumOf information dvcc mode = complemented mode (packed (checkBits ccitt (unpacked 8 dvcc ++ information)))
+
+-- whether the 16 bits after the first n of a word are the checksum of those n
+unfoldable pub crcValid : ℕ → List Bool → ℕ → CrcMode → Bool
+crcValid n w dvcc mode = eqb (packed (take 16 (drop n w))) (checksumOf (take n w) dvcc mode)
 
 unfoldable pub checksum7Of : List Bool → ℕ
 checksum7Of information = packed (checkBits speech information)

@@ -2,13 +2,15 @@
 // Ported from 136-bts, dcch.rs and acelp_cc1.rs, and changed (see NOTICE).
 use bits::Refusal;
 use bits::all_binary;
+use bits::pack;
 ghost use mathlib.Core.Path.{_≡_};
 ghost use mathlib.Core.Bool.{true};
 ghost use mathlib.Core.List.{[], _∷_};
-ghost use Prim.Native.Nat.{ℕ, _<_, _≤_};
+ghost use Prim.Native.Nat.{ℕ, _+_, _<_, _≤_};
+ghost use lib.ListN.{length};
 ghost use Rattle.bits.specs.Bits.{allBinary, bit, bits};
 ghost use Rattle.bits.specs.Numbers.{packed, unpacked};
-ghost use Rattle.checksums.specs.Checksums.{answerOf, checksum7Of, checksumOf, complemented, ofBits};
+ghost use Rattle.checksums.specs.Checksums.{answerOf, checksum7Of, checksumOf, complemented, crcValid, ofBits};
 ghost use Rattle.checksums.specs.Feedback.{Sized, registerAfter, stepped};
 
 // The weight of the highest bit of a register of 16 bits.
@@ -124,6 +126,16 @@ pub fn checksum(information: &[u8], dvcc: u8, mode: CrcMode) -> Checked
     }
     let value = checksum_of_bits(information, dvcc, mode);
     Checked::Value(value)
+}
+
+// Whether the 16 bits after so many bits of a word are the checksum of those.
+pub fn crc_valid(information: usize, word: &[u8], dvcc: u8, mode: CrcMode) -> bool
+    requires { ⌜ (information + 16 ≤ length (now word)) × (allBinary (now word) ≡ true) ⌝ }
+    ensures { λ r. ⌜ r ≡ crcValid information (bits (now (word .entry))) dvcc mode ⌝ }
+{
+    let received = pack(&word[information..information + 16]);
+    let checksum = checksum_of_bits(&word[..information], dvcc, mode);
+    received == checksum as u64
 }
 
 // The checksum of a speech frame's information.

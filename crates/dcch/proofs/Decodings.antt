@@ -7,13 +7,13 @@ use native.Mathlib.Omega.{arith}
 use lib.ListN.{length, take, drop, replicate, length-map}
 use lib.Seq.{length-take-le}
 use Rattle.bits.specs.Bits.{byte, bits, bytes, allBinary}
-use Rattle.bits.specs.Refusals.{accepted, refused, exactOf, binaryOf}
-use Rattle.bits.specs.declared.Lent.{Lent}
-use Rattle.bits.specs.declared.Lent.the-variants.{Fine, Refused}
+use Rattle.bits.specs.Refusals.{accepted, refused}
+use Rattle.bits.specs.declared.arguments.Arguments.{Arguments}
+use Rattle.bits.specs.declared.arguments.Arguments.the-variants.{Passed, Refused}
 use Rattle.bits.specs.declared.Refusal.{Refusal}
 use Rattle.bits.proofs.Binary.{bits-bytes, binary-bytes}
 use Rattle.bits.proofs.LentPart.{became, became-length}
-use Rattle.bits.proofs.Refusing.{never-both, fine-first, fine-exact, fine-binary}
+use Rattle.bits.proofs.Refusing.{never-both, passed-room}
 use Rattle.checksums.specs.declared.CrcMode.{CrcMode}
 use Rattle.trellis.specs.Search.{FoundFirst}
 use Rattle.trellis.specs.declared.Outcome.{Outcome}
@@ -24,7 +24,7 @@ use Rattle.dcch.specs.declared.block.Decoded.{Decoded}
 use Rattle.dcch.specs.declared.block.Decoded.the-variants as answer
 use Rattle.dcch_interleaver.specs.Formats.{encodedBits, informationBits}
 use Rattle.dcch_interleaver.specs.Wire.{deinterleaved}
-use Rattle.dcch.specs.Blocks.{lentDecode, Found, Finished, Settled, Decoding}
+use Rattle.dcch.specs.Blocks.{decodeArguments, Found, Finished, Settled, Decoding}
 use Rattle.dcch_interleaver.proofs.Interleaved.{bits-deinterleaved, binary-deinterleaved}
 use Rattle.dcch.proofs.Encodings.{format-sizes}
 
@@ -63,7 +63,7 @@ module _ (f : BlockFormat) (block : List ℕ) (binary : allBinary block ≡ true
         record { inputs = g' .found .word; written = g' .found .written; first = g' .first; count = g' .found .metric }
 
 -- ---- `decode`
-module _ (f : BlockFormat) (block : List ℕ) (dvcc : ℕ) (mode : CrcMode) (information₀ : List ℕ) {l : Lent} (told : l ≡ lentDecode f block (length information₀)) where
+module _ (f : BlockFormat) (block : List ℕ) (dvcc : ℕ) (mode : CrcMode) (information₀ : List ℕ) {l : Arguments} (told : l ≡ decodeArguments f block (length information₀)) where
   pub declined-end : (why : Refusal) → l ≡ Refused why → Decoding f block dvcc mode information₀ information₀ (answer.Refused why)
   declined-end why e =
       record {
@@ -71,19 +71,16 @@ module _ (f : BlockFormat) (block : List ℕ) (dvcc : ℕ) (mode : CrcMode) (inf
         settled = λ ef. never-both ef (sym told ∙ e);
       }
 
-  module _ (fine : l ≡ Fine) where
-    tests : (encodedBits f ≡ length block) × (informationBits f ≡ length information₀) × (allBinary block ≡ true)
-    tests =
-        let a = fine-first (exactOf (encodedBits f) (length block)) _ (sym told ∙ fine) in
-        let b = fine-first (exactOf (informationBits f) (length information₀)) (binaryOf block) (a .1) in
-        (fine-exact (encodedBits f) (length block) (a .0), fine-exact (informationBits f) (length information₀) (b .0), fine-binary block (b .1))
+  module _ (passed : l ≡ Passed) where
+    tests : (length block ≡ encodedBits f) × (length information₀ ≡ informationBits f) × (allBinary block ≡ true)
+    tests = passed-room (encodedBits f) block (informationBits f) (length information₀) told passed
 
     module _ (n : ℕ) (en : n ≡ encodedBits f) where
       pub half-within : n / 2 ≤ 130
       half-within = omega (arith, format-sizes f .2)
 
       pub asks-nearest : (allBinary block ≡ true) × (length block ≡ encodedBits f) × (length (take {A = ℕ} (n / 2) (replicate 130 0)) ≡ encodedBits f / 2)
-      asks-nearest = (tests .2, sym (tests .0), length-take-le {A = ℕ} (n / 2) (replicate 130 0) half-within ∙ ap (λ (m : ℕ). m / 2) en)
+      asks-nearest = (tests .2, tests .0, length-take-le {A = ℕ} (n / 2) (replicate 130 0) half-within ∙ ap (λ (m : ℕ). m / 2) en)
 
       module _ (word : List ℕ) (kept : length word ≡ length (take {A = ℕ} (n / 2) (replicate 130 0))) {corrected : ℕ} (g : Found f block word corrected) where
         word-part : take (n / 2) (word ++ drop {A = ℕ} (n / 2) (replicate 130 0)) ≡ word
@@ -104,7 +101,7 @@ module _ (f : BlockFormat) (block : List ℕ) (dvcc : ℕ) (mode : CrcMode) (inf
             let e : bits (take (n / 2) (word ++ drop {A = ℕ} (n / 2) (replicate 130 0))) ≡ reverse (g .inputs) =
             ap bits word-part ∙ ap bits (g .written) ∙ bits-bytes (reverse (g .inputs)) in
             record {
-              declined = λ y ey. never-both fine (told ∙ ey);
+              declined = λ y ey. never-both passed (told ∙ ey);
               settled = λ ef. record {
                 word = g .inputs;
                 first = g .first;

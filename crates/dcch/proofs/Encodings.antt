@@ -7,13 +7,13 @@ use native.Mathlib.Omega.{arith}
 use lib.ListN.{length, take, drop, replicate, length-replicate, replicate-append-replicate}
 use lib.Seq.{length-take-le, take-at}
 use Rattle.bits.specs.Bits.{bits, bytes, allBinary}
-use Rattle.bits.specs.Refusals.{accepted, refused, firstOf, exactOf, binaryOf}
-use Rattle.bits.specs.declared.Lent.{Lent}
-use Rattle.bits.specs.declared.Lent.the-variants.{Fine, Refused}
+use Rattle.bits.specs.Refusals.{accepted, refused}
+use Rattle.bits.specs.declared.arguments.Arguments.{Arguments}
+use Rattle.bits.specs.declared.arguments.Arguments.the-variants.{Passed, Refused}
 use Rattle.bits.specs.declared.Refusal.{Refusal}
 use Rattle.bits.proofs.Binary.{bits-bytes, binary-bytes}
 use Rattle.bits.proofs.LentPart.{became, became-length}
-use Rattle.bits.proofs.Refusing.{never-both, fine-first, fine-exact, fine-binary}
+use Rattle.bits.proofs.Refusing.{passed-room}
 use Rattle.coding.specs.Codes.{coded, dcch}
 use Rattle.coding.specs.Registers.{memoryHigh}
 use Rattle.coding.specs.Runs.{Encoded}
@@ -25,7 +25,7 @@ use Rattle.bits.specs.declared.Wrote.the-variants as answer
 use Rattle.bits.proofs.Writing as writing
 use Rattle.dcch_interleaver.specs.Formats.{encodedBits, informationBits}
 use Rattle.dcch_interleaver.specs.Wire.{interleaved}
-use Rattle.dcch.specs.Blocks.{inputsOf, cellsOf, blockOf, lentEncode, Encoding}
+use Rattle.dcch.specs.Blocks.{inputsOf, cellsOf, blockOf, encodeArguments, Encoding}
 use Rattle.dcch_interleaver.proofs.Interleaved.{bytes-interleaved}
 
 -- two coded bits for each bit of the information, the checksum and the tail
@@ -74,13 +74,10 @@ module _ (information : List ℕ) (binary : allBinary information ≡ true) (sma
         (ap bits part ∙ ap bits filled ∙ bits-bytes (inputsOf (bits information) checksum) ∙ ap (inputsOf (bits information)) ec)
 
 -- ---- `encode`
-module _ (f : BlockFormat) (information : List ℕ) (dvcc : ℕ) (mode : CrcMode) (block₀ : List ℕ) {l : Lent} (told : l ≡ lentEncode f information (length block₀)) where
-  module _ (fine : l ≡ Fine) where
-    tests : (informationBits f ≡ length information) × (encodedBits f ≡ length block₀) × (allBinary information ≡ true)
-    tests =
-        let a = fine-first (exactOf (informationBits f) (length information)) _ (sym told ∙ fine) in
-        let b = fine-first (exactOf (encodedBits f) (length block₀)) (binaryOf information) (a .1) in
-        (fine-exact (informationBits f) (length information) (a .0), fine-exact (encodedBits f) (length block₀) (b .0), fine-binary information (b .1))
+module _ (f : BlockFormat) (information : List ℕ) (dvcc : ℕ) (mode : CrcMode) (block₀ : List ℕ) {l : Arguments} (told : l ≡ encodeArguments f information (length block₀)) where
+  module _ (passed : l ≡ Passed) where
+    tests : (length information ≡ informationBits f) × (length block₀ ≡ encodedBits f) × (allBinary information ≡ true)
+    tests = passed-room (informationBits f) information (encodedBits f) (length block₀) told passed
 
     module _ (n : ℕ) (en : n ≡ encodedBits f) where
       pub within : n ≤ 260
@@ -98,9 +95,9 @@ module _ (f : BlockFormat) (information : List ℕ) (dvcc : ℕ) (mode : CrcMode
         cells-part = became n (replicate 260 0) within cells kept
 
         pub asks-interleave : (length (take n (cells ++ drop {A = ℕ} n (replicate 260 0))) ≡ encodedBits f) × (length block₀ ≡ encodedBits f)
-        asks-interleave = (ap length cells-part ∙ became-length n (replicate 260 0) within cells kept ∙ en, sym (tests .1))
+        asks-interleave = (ap length cells-part ∙ became-length n (replicate 260 0) within cells kept ∙ en, tests .1)
 
         pub done-end : {block : List ℕ} → cells ≡ bytes (cellsOf (bits information) dvcc mode)
             → block ≡ interleaved f 0 (take n (cells ++ drop {A = ℕ} n (replicate 260 0))) → Encoding f information dvcc mode block₀ block answer.Done
         unfolding blockOf
-        done-end ec eb = writing.done-end told fine (eb ∙ ap (interleaved f 0) (cells-part ∙ ec) ∙ sym (bytes-interleaved f (cellsOf (bits information) dvcc mode)))
+        done-end ec eb = writing.done-end told passed (eb ∙ ap (interleaved f 0) (cells-part ∙ ec) ∙ sym (bytes-interleaved f (cellsOf (bits information) dvcc mode)))

@@ -11,28 +11,28 @@ use lib.Seq.{take-at, drop-at}
 use borrow.Author.Tests.{eq-eqb}
 use Rattle.bits.specs.Bits.{byte, bits, bytes, disagreements}
 use Rattle.bits.specs.Numbers.{packed, unpacked}
-use Rattle.bits.specs.Refusals.{accepted, exactOf, binaryOf, firstOf}
-use Rattle.bits.specs.declared.Lent.the-variants.{Fine, Refused}
+use Rattle.bits.specs.Refusals.{accepted}
+use Rattle.bits.specs.declared.arguments.Arguments.the-variants.{Passed, Refused}
 use Rattle.bits.specs.declared.Refusal.the-variants.{Symbol}
 use Rattle.bits.proofs.Binary.{bits-bytes, binary-bytes}
 use Rattle.bits.proofs.Packed.{packed-unpacked-below, unpacked-length}
 use Rattle.bits.proofs.Tally.{disagreements-self, disagreements-none}
 use Rattle.coding.specs.Codes.{coded, dcch}
 use Rattle.coding.specs.Registers.{memoryHigh}
-use Rattle.checksums.specs.Checksums.{checksumOf}
+use Rattle.checksums.specs.Checksums.{checksumOf, crcValid}
 use Rattle.checksums.specs.declared.CrcMode.{CrcMode}
 use Rattle.coding.proofs.Coded.{coded-length}
 use Rattle.coding.proofs.Unique.{same-start}
-use Rattle.checksums.proofs.Answers.{checksum-below}
+use Rattle.checksums.proofs.Tested.{own-valid}
 use Rattle.trellis.specs.Search.{First}
 use Rattle.trellis.specs.Words.{Terminated}
 use Rattle.viterbi.specs.Hard.{weight, weightFrom}
-use Rattle.bits.proofs.Refusing.{exact-fine}
+use Rattle.bits.proofs.Refusing.{room-passed}
 use Rattle.dcch_interleaver.specs.declared.BlockFormat.{BlockFormat}
 use Rattle.dcch.specs.declared.block.Decoded.{Decoded}
 use Rattle.dcch_interleaver.specs.Formats.{encodedBits, informationBits}
 use Rattle.dcch_interleaver.specs.Wire.{interleaved, deinterleaved}
-use Rattle.dcch.specs.Blocks.{inputsOf, cellsOf, blockOf, sound, lentDecode, decodeAnswer, Settled, Decoding}
+use Rattle.dcch.specs.Blocks.{inputsOf, cellsOf, blockOf, decodeArguments, decodeAnswer, Settled, Decoding}
 use Rattle.dcch_interleaver.proofs.Interleaved.{interleaved-length, deinterleaved-interleaved}
 use Rattle.dcch.proofs.Encodings.{format-sizes}
 
@@ -85,34 +85,28 @@ module _ (f : BlockFormat) (information : List Bool) (size : length information 
   front n e = ap (λ (k : ℕ). take k inputs) e ∙ take-at information (unpacked 16 (checksumOf information dvcc mode) ++ replicate 5 false) (length information) refl
 
   -- the checksum in the inputs is right
-  sound-own : (n : ℕ) → n ≡ length information → sound n inputs dvcc mode ≡ true
-  unfolding sound inputs inputsOf
-  sound-own n e =
-      let c : ℕ = checksumOf information dvcc mode in
-      let back : drop n inputs ≡ unpacked 16 c ++ replicate 5 false = ap (λ (k : ℕ). drop k inputs) e ∙ drop-at information (unpacked 16 c ++ replicate 5 false) (length information) refl in
-      let sent : packed (take 16 (drop n inputs)) ≡ c =
-      ap (λ (l : List Bool). packed (take 16 l)) back ∙ ap packed (take-at (unpacked 16 c) (replicate 5 false) 16 (unpacked-length 16 c)) ∙ packed-unpacked-below 16 c (checksum-below information dvcc mode) in
-      ap (λ (u : List Bool). eqb (packed (take 16 (drop n inputs))) (checksumOf u dvcc mode)) (front n e) ∙ eq-eqb (packed (take 16 (drop n inputs))) c sent
+  valid-own : (n : ℕ) → n ≡ length information → crcValid n inputs dvcc mode ≡ true
+  unfolding inputs inputsOf
+  valid-own n e = own-valid information (replicate 5 false) dvcc mode e
 
-  fine : (n : ℕ) → n ≡ informationBits f → lentDecode f (bytes (blockOf f information dvcc mode)) n ≡ Fine
+  passed : (n : ℕ) → n ≡ informationBits f → decodeArguments f (bytes (blockOf f information dvcc mode)) n ≡ Passed
   unfolding blockOf
-  fine n e =
+  passed n e =
       let block : List ℕ = bytes (interleaved f false (cellsOf information dvcc mode)) in
       let l : length block ≡ encodedBits f = length-map (interleaved f false (cellsOf information dvcc mode)) byte ∙ interleaved-length f false (cellsOf information dvcc mode) in
-      let b : binaryOf block ≡ Fine = ap (λ (t : Bool). cond t Fine (Refused Symbol)) (binary-bytes (interleaved f false (cellsOf information dvcc mode))) in
-      ap₂ firstOf (exact-fine (encodedBits f) (length block) l) (ap₂ firstOf (exact-fine (informationBits f) n e) b)
+      room-passed (encodedBits f) block (informationBits f) n l e (binary-bytes (interleaved f false (cellsOf information dvcc mode)))
 
   pub round-trip : (information₀ information′ : List ℕ) (r : Decoded) → length information₀ ≡ informationBits f
       → Decoding f (bytes (blockOf f information dvcc mode)) dvcc mode information₀ information′ r
       → (decodeAnswer r ≡ accepted 0) × (information′ ≡ bytes information)
   round-trip information₀ information′ r l d =
-      let s : Settled f (bytes (blockOf f information dvcc mode)) dvcc mode information₀ information′ r = d .settled (fine (length information₀) l) in
+      let s : Settled f (bytes (blockOf f information dvcc mode)) dvcc mode information₀ information′ r = d .settled (passed (length information₀) l) in
       let w : List Bool = s .word in
       let first : First (Terminated (encodedBits f / 2)) (weight cells) w =
       subst (λ (u : List Bool). First (Terminated (encodedBits f / 2)) (weight u) w) received (s .first) in
       let zero : weight cells w ≡ 0 = omega (arith, first .nearest .least (reverse inputs) own, own-weight) in
       let same : reverse w ≡ inputs = only-own w (first .nearest .word) zero in
-      let taken = s .finished .taken (ap (λ (u : List Bool). sound (length information₀) u dvcc mode) same ∙ sound-own (length information₀) (l ∙ sym size)) in (
+      let taken = s .finished .taken (ap (λ (u : List Bool). crcValid (length information₀) u dvcc mode) same ∙ valid-own (length information₀) (l ∙ sym size)) in (
         taken .0 ∙ ap accepted (ap (λ (u : List Bool). weight u w) received ∙ zero),
         taken .1 ∙ ap bytes (ap (take (length information₀)) same ∙ front (length information₀) (l ∙ sym size)),
       )

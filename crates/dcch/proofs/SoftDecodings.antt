@@ -7,13 +7,14 @@ use native.Mathlib.Omega.{arith}
 use lib.ListN.{length, getD, take, drop, replicate}
 use lib.Seq.{length-take-le}
 use lib.Ieee.{Float, nan}
-use Rattle.bits.specs.Refusals.{refused, exactOf}
-use Rattle.bits.specs.declared.Lent.{Lent}
-use Rattle.bits.specs.declared.Lent.the-variants.{Fine, Refused}
+use Rattle.bits.specs.Refusals.{refused}
+use Rattle.bits.specs.Arguments.{exactOf}
+use Rattle.bits.specs.declared.arguments.Arguments.{Arguments}
+use Rattle.bits.specs.declared.arguments.Arguments.the-variants.{Passed, Refused}
 use Rattle.bits.specs.declared.Refusal.{Refusal}
 use Rattle.bits.specs.declared.Refusal.the-variants.{Crc}
 use Rattle.bits.proofs.LentPart.{became, became-length}
-use Rattle.bits.proofs.Refusing.{never-both, fine-first, fine-exact}
+use Rattle.bits.proofs.Refusing.{never-both, passed-first, passed-exact}
 use Rattle.checksums.specs.declared.CrcMode.{CrcMode}
 use Rattle.soft.specs.Reliability.{finite, allFinite, WholeWithin, AllWhole}
 use Rattle.soft.proofs.Tests.{finite-each}
@@ -22,7 +23,7 @@ use Rattle.dcch.specs.declared.block.Decoded.{Decoded}
 use Rattle.dcch.specs.declared.block.Decoded.the-variants as answer
 use Rattle.dcch_interleaver.specs.Formats.{encodedBits, informationBits}
 use Rattle.dcch_interleaver.specs.Wire.{deinterleaved}
-use Rattle.dcch.specs.SoftBlocks.{lentSoft, SoftEnd, SoftDecoding}
+use Rattle.dcch.specs.SoftBlocks.{softArguments, SoftEnd, SoftDecoding}
 use Rattle.dcch_interleaver.proofs.Wiring.{wire-below}
 use Rattle.dcch_interleaver.proofs.Interleaved.{deinterleaved-length, deinterleaved-at}
 use Rattle.dcch.proofs.Encodings.{format-sizes}
@@ -48,16 +49,16 @@ not-zero : (b : Bool) → not b ≡ true → b ≡ false
 not-zero false h = refl
 not-zero true h = sym h
 
-module _ (f : BlockFormat) (block : List Float) (dvcc : ℕ) (mode : CrcMode) (information₀ : List ℕ) {l : Lent} (told : l ≡ lentSoft f (length block) (length information₀)) where
-  tests : lentSoft f (length block) (length information₀) ≡ Fine → (encodedBits f ≡ length block) × (informationBits f ≡ length information₀)
+module _ (f : BlockFormat) (block : List Float) (dvcc : ℕ) (mode : CrcMode) (information₀ : List ℕ) {l : Arguments} (told : l ≡ softArguments f (length block) (length information₀)) where
+  tests : softArguments f (length block) (length information₀) ≡ Passed → (encodedBits f ≡ length block) × (informationBits f ≡ length information₀)
   tests e =
-      let a = fine-first (exactOf (encodedBits f) (length block)) (exactOf (informationBits f) (length information₀)) e in
-      (fine-exact (encodedBits f) (length block) (a .0), fine-exact (informationBits f) (length information₀) (a .1))
+      let a = passed-first (exactOf (encodedBits f) (length block)) (exactOf (informationBits f) (length information₀)) e in
+      (passed-exact (encodedBits f) (length block) (a .0), passed-exact (informationBits f) (length information₀) (a .1))
 
-  cells-finite : lentSoft f (length block) (length information₀) ≡ Fine → allFinite block ≡ true → allFinite (deinterleaved f nan block) ≡ true
+  cells-finite : softArguments f (length block) (length information₀) ≡ Passed → allFinite block ≡ true → allFinite (deinterleaved f nan block) ≡ true
   cells-finite e h = each-finite (deinterleaved f nan block) (at-cells (λ (x : Float). finite x ≡ true) f block (sym (tests e .0)) (finite-each block h))
 
-  cells-whole : lentSoft f (length block) (length information₀) ≡ Fine → AllWhole block → AllWhole (deinterleaved f nan block)
+  cells-whole : softArguments f (length block) (length information₀) ≡ Passed → AllWhole block → AllWhole (deinterleaved f nan block)
   cells-whole e h = at-cells (WholeWithin (2 ^ 40)) f block (sym (tests e .0)) h
 
   pub declined-end : (why : Refusal) → l ≡ Refused why → SoftDecoding f block dvcc mode information₀ information₀ (answer.Refused why)
@@ -70,11 +71,11 @@ module _ (f : BlockFormat) (block : List Float) (dvcc : ℕ) (mode : CrcMode) (i
         whole = cells-whole;
       }
 
-  module _ (fine : l ≡ Fine) {a : Bool} (read : a ≡ allFinite block) where
+  module _ (passed : l ≡ Passed) {a : Bool} (read : a ≡ allFinite block) where
     pub unreadable-end : not a ≡ true → SoftDecoding f block dvcc mode information₀ information₀ (answer.Refused Crc)
     unreadable-end h =
         record {
-          declined = λ y ey. never-both fine (told ∙ ey);
+          declined = λ y ey. never-both passed (told ∙ ey);
           unreadable = λ ef k. (refl, refl);
           settled = λ ef k. absurd (false≢true (sym (not-zero a h) ∙ read ∙ k));
           finite = cells-finite;
@@ -90,7 +91,7 @@ module _ (f : BlockFormat) (block : List Float) (dvcc : ℕ) (mode : CrcMode) (i
         room = omega (arith, within)
 
         pub asks-wires : (length block ≡ encodedBits f) × (length (take n zeros) ≡ encodedBits f)
-        asks-wires = (sym (tests (sym told ∙ fine) .0), length-take-le n zeros room ∙ en)
+        asks-wires = (sym (tests (sym told ∙ passed) .0), length-take-le n zeros room ∙ en)
 
         module _ (cells : List Float) (kept : length cells ≡ length (take n zeros)) (wired : cells ≡ deinterleaved f nan block) where
           part : take n (cells ++ drop n zeros) ≡ cells
@@ -98,14 +99,14 @@ module _ (f : BlockFormat) (block : List Float) (dvcc : ℕ) (mode : CrcMode) (i
 
           pub asks-cells : (length information₀ ≤ 109) × (length (take n (cells ++ drop n zeros)) ≡ (length information₀ + 21) * 2)
           asks-cells =
-              let i : informationBits f ≡ length information₀ = tests (sym told ∙ fine) .1 in
+              let i : informationBits f ≡ length information₀ = tests (sym told ∙ passed) .1 in
               (omega (arith, i, format-sizes f .1), omega (arith, ap length part, became-length n zeros room cells kept, i, format-sizes f .0))
 
           pub settled-end : {information : List ℕ} {r : Decoded} → not a ≡ false → SoftEnd (take n (cells ++ drop n zeros)) dvcc mode information₀ information r
               → SoftDecoding f block dvcc mode information₀ information r
           settled-end {information} {r} h e =
               record {
-                declined = λ y ey. never-both fine (told ∙ ey);
+                declined = λ y ey. never-both passed (told ∙ ey);
                 unreadable = λ ef k. absurd (false≢true (sym k ∙ sym read ∙ not-one a h));
                 settled = λ ef k. subst (λ (v : List Float). SoftEnd v dvcc mode information₀ information r) (part ∙ wired) e;
                 finite = cells-finite;

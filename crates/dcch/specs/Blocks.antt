@@ -7,14 +7,15 @@ use lib.Dec.{eqb}
 use lib.ListN.{length, take, drop, replicate}
 use Rattle.bits.specs.Bits.{bits, bytes}
 use Rattle.bits.specs.Numbers.{packed, unpacked}
-use Rattle.bits.specs.Refusals.{Answer, accepted, refused, firstOf, exactOf, binaryOf}
-use Rattle.bits.specs.declared.Lent.{Lent}
-use Rattle.bits.specs.declared.Lent.the-variants.{Fine, Refused}
+use Rattle.bits.specs.Refusals.{Answer, accepted, refused}
+use Rattle.bits.specs.Arguments.{bitsAndRoom}
+use Rattle.bits.specs.declared.arguments.Arguments.{Arguments}
+use Rattle.bits.specs.declared.arguments.Arguments.the-variants.{Passed, Refused}
 use Rattle.bits.specs.declared.Refusal.{Refusal}
 use Rattle.bits.specs.declared.Refusal.the-variants.{Crc}
 use Rattle.coding.specs.Codes.{coded, dcch}
 use Rattle.coding.specs.Registers.{memoryHigh}
-use Rattle.checksums.specs.Checksums.{checksumOf}
+use Rattle.checksums.specs.Checksums.{checksumOf, crcValid}
 use Rattle.checksums.specs.declared.CrcMode.{CrcMode}
 use Rattle.trellis.specs.Search.{First}
 use Rattle.trellis.specs.Words.{Terminated}
@@ -46,26 +47,22 @@ decodeAnswer (decoded.Accepted corrected) = accepted corrected
 decodeAnswer (decoded.Refused why) = refused why
 
 -- a slice of information and room for the block: each length, then the symbols
-abbrev pub lentEncode : BlockFormat → List ℕ → ℕ → Lent
-lentEncode f information room = firstOf (exactOf (informationBits f) (length information)) (firstOf (exactOf (encodedBits f) room) (binaryOf information))
+abbrev pub encodeArguments : BlockFormat → List ℕ → ℕ → Arguments
+encodeArguments f information room = bitsAndRoom (informationBits f) information (encodedBits f) room
 
 abbrev pub Encoding : BlockFormat → List ℕ → ℕ → CrcMode → List ℕ → List ℕ → Wrote → Type 0
 Encoding f information dvcc mode block₀ block r =
-    Written (lentEncode f information (length block₀)) (bytes (blockOf f (bits information) dvcc mode)) block₀ block r
+    Written (encodeArguments f information (length block₀)) (bytes (blockOf f (bits information) dvcc mode)) block₀ block r
 
 -- ---- decode
 -- a block and room for the information: each length, then the symbols
-abbrev pub lentDecode : BlockFormat → List ℕ → ℕ → Lent
-lentDecode f block room = firstOf (exactOf (encodedBits f) (length block)) (firstOf (exactOf (informationBits f) room) (binaryOf block))
-
--- whether the checksum in a word's inputs, of which the first n are information, is that of the information
-unfoldable pub sound : ℕ → List Bool → ℕ → CrcMode → Bool
-sound n inputs dvcc mode = eqb (packed (take 16 (drop n inputs))) (checksumOf (take n inputs) dvcc mode)
+abbrev pub decodeArguments : BlockFormat → List ℕ → ℕ → Arguments
+decodeArguments f block room = bitsAndRoom (encodedBits f) block (informationBits f) room
 
 -- the end of a decoding: the information and the count where the checksum is right, else Crc and nothing written
 pub record Finished (inputs : List Bool) (corrected dvcc : ℕ) (mode : CrcMode) (information₀ information : List ℕ) (r : Decoded) : Type 0 where
-  pub taken : sound (length information₀) inputs dvcc mode ≡ true → (decodeAnswer r ≡ accepted corrected) × (information ≡ bytes (take (length information₀) inputs))
-  pub spoilt : sound (length information₀) inputs dvcc mode ≡ false → (decodeAnswer r ≡ refused Crc) × (information ≡ information₀)
+  pub taken : crcValid (length information₀) inputs dvcc mode ≡ true → (decodeAnswer r ≡ accepted corrected) × (information ≡ bytes (take (length information₀) inputs))
+  pub failed : crcValid (length information₀) inputs dvcc mode ≡ false → (decodeAnswer r ≡ refused Crc) × (information ≡ information₀)
 
 -- what the search of a block finds: the first of the nearest words, as bytes, and its number of disagreements
 pub record Found (f : BlockFormat) (block word : List ℕ) (corrected : ℕ) : Type 0 where
@@ -81,5 +78,5 @@ pub record Settled (f : BlockFormat) (block : List ℕ) (dvcc : ℕ) (mode : Crc
   pub finished : Finished (reverse word) (weight (deinterleaved f false (bits block)) word) dvcc mode information₀ information r
 
 pub record Decoding (f : BlockFormat) (block : List ℕ) (dvcc : ℕ) (mode : CrcMode) (information₀ information : List ℕ) (r : Decoded) : Type 0 where
-  pub declined : (why : Refusal) → lentDecode f block (length information₀) ≡ Refused why → (decodeAnswer r ≡ refused why) × (information ≡ information₀)
-  pub settled : lentDecode f block (length information₀) ≡ Fine → Settled f block dvcc mode information₀ information r
+  pub declined : (why : Refusal) → decodeArguments f block (length information₀) ≡ Refused why → (decodeAnswer r ≡ refused why) × (information ≡ information₀)
+  pub settled : decodeArguments f block (length information₀) ≡ Passed → Settled f block dvcc mode information₀ information r

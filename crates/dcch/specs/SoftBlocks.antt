@@ -6,9 +6,10 @@ use Prim.Native.Nat.{ℕ, _+_}
 use lib.ListN.{length}
 use lib.Ieee.{Float, nan}
 use Rattle.bits.specs.Bits.{bytes}
-use Rattle.bits.specs.Refusals.{refused, firstOf, exactOf}
-use Rattle.bits.specs.declared.Lent.{Lent}
-use Rattle.bits.specs.declared.Lent.the-variants.{Fine, Refused}
+use Rattle.bits.specs.Refusals.{refused}
+use Rattle.bits.specs.Arguments.{firstRefusal, exactOf}
+use Rattle.bits.specs.declared.arguments.Arguments.{Arguments}
+use Rattle.bits.specs.declared.arguments.Arguments.the-variants.{Passed, Refused}
 use Rattle.bits.specs.declared.Refusal.{Refusal}
 use Rattle.bits.specs.declared.Refusal.the-variants.{Crc}
 use Rattle.coding.specs.Codes.{coded, dcch}
@@ -26,8 +27,8 @@ use Rattle.dcch_interleaver.specs.Wire.{deinterleaved}
 use Rattle.dcch.specs.Blocks.{decodeAnswer, Finished}
 
 -- a block and room for the information: each length
-abbrev pub lentSoft : BlockFormat → ℕ → ℕ → Lent
-lentSoft f block room = firstOf (exactOf (encodedBits f) block) (exactOf (informationBits f) room)
+abbrev pub softArguments : BlockFormat → ℕ → ℕ → Arguments
+softArguments f block room = firstRefusal (exactOf (encodedBits f) block) (exactOf (informationBits f) room)
 
 -- the corrected bits of a word's inputs: its coded bits that differ from the signs; a zero reads as a zero
 unfoldable pub signsOf : List Bool → List Float → ℕ
@@ -44,8 +45,8 @@ pub record SoftEnd (cells : List Float) (dvcc : ℕ) (mode : CrcMode) (informati
 
 -- lengths, then Crc where a reliability is a NaN or an infinity, then the search of the cells; they are finite or whole numbers where the block's are
 pub record SoftDecoding (f : BlockFormat) (block : List Float) (dvcc : ℕ) (mode : CrcMode) (information₀ information : List ℕ) (r : Decoded) : Type 0 where
-  pub declined : (why : Refusal) → lentSoft f (length block) (length information₀) ≡ Refused why → (decodeAnswer r ≡ refused why) × (information ≡ information₀)
-  pub unreadable : lentSoft f (length block) (length information₀) ≡ Fine → allFinite block ≡ false → (decodeAnswer r ≡ refused Crc) × (information ≡ information₀)
-  pub settled : lentSoft f (length block) (length information₀) ≡ Fine → allFinite block ≡ true → SoftEnd (deinterleaved f nan block) dvcc mode information₀ information r
-  pub finite : lentSoft f (length block) (length information₀) ≡ Fine → allFinite block ≡ true → allFinite (deinterleaved f nan block) ≡ true
-  pub whole : lentSoft f (length block) (length information₀) ≡ Fine → AllWhole block → AllWhole (deinterleaved f nan block)
+  pub declined : (why : Refusal) → softArguments f (length block) (length information₀) ≡ Refused why → (decodeAnswer r ≡ refused why) × (information ≡ information₀)
+  pub unreadable : softArguments f (length block) (length information₀) ≡ Passed → allFinite block ≡ false → (decodeAnswer r ≡ refused Crc) × (information ≡ information₀)
+  pub settled : softArguments f (length block) (length information₀) ≡ Passed → allFinite block ≡ true → SoftEnd (deinterleaved f nan block) dvcc mode information₀ information r
+  pub finite : softArguments f (length block) (length information₀) ≡ Passed → allFinite block ≡ true → allFinite (deinterleaved f nan block) ≡ true
+  pub whole : softArguments f (length block) (length information₀) ≡ Passed → AllWhole block → AllWhole (deinterleaved f nan block)

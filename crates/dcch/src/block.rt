@@ -1,14 +1,12 @@
 // DCCH blocks: encoding, and decoding of received bits (IS-136.1-A 4.4.3 and 5.2.6). Ported from 136-bts, dcch.rs, and changed (see NOTICE). The contracts cite specs/.
-use bits::Lent;
 use bits::Refusal;
 use bits::Wrote;
-use bits::exact;
-use bits::first;
-use bits::only_bits;
-use bits::pack;
+use bits::arguments::Arguments;
+use bits::arguments::bits_and_room;
 use bits::unpack;
 use checksums::CrcMode;
 use checksums::checksum_of_bits;
+use checksums::crc_valid;
 use coding::dcch::convolutional_encode;
 use dcch_interleaver::BlockFormat;
 use dcch_interleaver::deinterleave;
@@ -19,7 +17,7 @@ ghost use Prim.Native.Nat.{_+_, _*_, _/_, _≤_};
 ghost use lib.ListN.{length, replicate};
 ghost use Rattle.bits.specs.Bits.{allBinary, bits, bytes};
 ghost use Rattle.dcch_interleaver.specs.Formats.{encodedBits};
-ghost use Rattle.dcch.specs.Blocks.{Decoding, Encoding, Finished, Found, cellsOf, inputsOf, lentDecode, lentEncode};
+ghost use Rattle.dcch.specs.Blocks.{Decoding, Encoding, Finished, Found, cellsOf, inputsOf, decodeArguments, encodeArguments};
 
 // What decoding a block answers: the number of corrected bits, or a refusal.
 pub enum Decoded {
@@ -37,24 +35,18 @@ fn fill_inputs(information: &[u8], checksum: u16, inputs: &mut [u8])
     unpack(checksum as u64, &mut inputs[n..n + 16]);
 }
 
-fn lent_encode(format: BlockFormat, information: &[u8], room: usize) -> Lent
-    ensures { λ r. ⌜ r ≡ lentEncode format (now (information .entry)) room ⌝ }
+fn encode_arguments(format: BlockFormat, information: &[u8], room: usize) -> Arguments
+    ensures { λ r. ⌜ r ≡ encodeArguments format (now (information .entry)) room ⌝ }
 {
-    let lengths = exact(format.information_bits(), information.len());
-    first(
-        lengths,
-        first(exact(format.encoded_bits(), room), only_bits(information)),
-    )
+    let bits = format.information_bits();
+    bits_and_room(bits, information, format.encoded_bits(), room)
 }
 
-fn lent_decode(format: BlockFormat, block: &[u8], room: usize) -> Lent
-    ensures { λ r. ⌜ r ≡ lentDecode format (now (block .entry)) room ⌝ }
+fn decode_arguments(format: BlockFormat, block: &[u8], room: usize) -> Arguments
+    ensures { λ r. ⌜ r ≡ decodeArguments format (now (block .entry)) room ⌝ }
 {
-    let lengths = exact(format.encoded_bits(), block.len());
-    first(
-        lengths,
-        first(exact(format.information_bits(), room), only_bits(block)),
-    )
+    let bits = format.encoded_bits();
+    bits_and_room(bits, block, format.information_bits(), room)
 }
 
 // The information of a word's inputs, where the checksum after it is right.
@@ -69,9 +61,8 @@ pub fn finish(
     ensures { λ r. ⌜ Finished (bits (now (inputs .entry))) corrected dvcc mode (now (information .entry)) (now (information .exit)) r ⌝ }
 {
     let n = information.len();
-    let received = pack(&inputs[n..n + 16]);
-    let checksum = checksum_of_bits(&inputs[..n], dvcc, mode);
-    if received != checksum as u64 {
+    let right = crc_valid(n, inputs, dvcc, mode);
+    if !right {
         return Decoded::Refused(Refusal::Crc);
     }
     bytes::copy(&inputs[..n], information);
@@ -100,8 +91,8 @@ pub fn encode(
 ) -> Wrote
     ensures { λ r. ⌜ Encoding format (now (information .entry)) dvcc mode (now (block .entry)) (now (block .exit)) r ⌝ }
 {
-    let ready = lent_encode(format, information, block.len());
-    if let Lent::Refused(why) = ready {
+    let ready = encode_arguments(format, information, block.len());
+    if let Arguments::Refused(why) = ready {
         return Wrote::Refused(why);
     }
     let bits = format.encoded_bits();
@@ -133,8 +124,8 @@ pub fn decode(
 ) -> Decoded
     ensures { λ r. ⌜ Decoding format (now (block .entry)) dvcc mode (now (information .entry)) (now (information .exit)) r ⌝ }
 {
-    let ready = lent_decode(format, block, information.len());
-    if let Lent::Refused(why) = ready {
+    let ready = decode_arguments(format, block, information.len());
+    if let Arguments::Refused(why) = ready {
         return Decoded::Refused(why);
     }
     let steps = format.encoded_bits() / 2;

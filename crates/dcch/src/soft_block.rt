@@ -2,10 +2,10 @@
 // Ported from 136-bts, dcch.rs, and changed (see NOTICE).
 use crate::block::Decoded;
 use crate::block::finish;
-use bits::Lent;
 use bits::Refusal;
-use bits::exact;
-use bits::first;
+use bits::arguments::Arguments;
+use bits::arguments::exact;
+use bits::arguments::first_refusal;
 use checksums::CrcMode;
 use coding::dcch::convolutional_encode;
 use dcch_interleaver::BlockFormat;
@@ -18,13 +18,13 @@ ghost use mathlib.Core.Path.{_≡_};
 ghost use Prim.Native.Nat.{_+_, _*_, _≤_};
 ghost use lib.ListN.{length};
 ghost use Rattle.bits.specs.Bits.{allBinary, bits};
-ghost use Rattle.dcch.specs.SoftBlocks.{SoftDecoding, SoftEnd, lentSoft, signsOf};
+ghost use Rattle.dcch.specs.SoftBlocks.{SoftDecoding, SoftEnd, softArguments, signsOf};
 
-fn lent_soft(format: BlockFormat, block: usize, room: usize) -> Lent
-    ensures { λ r. ⌜ r ≡ lentSoft format block room ⌝ }
+fn soft_arguments(format: BlockFormat, block: usize, room: usize) -> Arguments
+    ensures { λ r. ⌜ r ≡ softArguments format block room ⌝ }
 {
     let lengths = exact(format.encoded_bits(), block);
-    first(lengths, exact(format.information_bits(), room))
+    first_refusal(lengths, exact(format.information_bits(), room))
 }
 
 // In how many places the coded bits of a word differ from the signs of the reliabilities.
@@ -60,8 +60,8 @@ pub fn decode_soft(
 ) -> Decoded
     ensures { λ r. ⌜ SoftDecoding format (now (block .entry)) dvcc mode (now (information .entry)) (now (information .exit)) r ⌝ }
 {
-    let ready = lent_soft(format, block.len(), information.len());
-    if let Lent::Refused(why) = ready {
+    let ready = soft_arguments(format, block.len(), information.len());
+    if let Arguments::Refused(why) = ready {
         return Decoded::Refused(why);
     }
     if !all_finite(block) {

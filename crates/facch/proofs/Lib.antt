@@ -6,7 +6,6 @@
 pub mod Settling
 pub mod WordBits
 pub mod Biting
-pub mod Receiving
 pub mod Rotating
 pub mod Turned
 pub mod Meaning

@@ -9,15 +9,15 @@ use lib.Dec.{eqb}
 use lib.ListN.{length, getD}
 use borrow.Author.Tests.{lt-ltb, le-ltb, ne-eqb}
 use Rattle.bits.specs.Refusals.{Answer, accepted, refused}
-use Rattle.bits.specs.declared.Lent.{Lent}
-use Rattle.bits.specs.declared.Lent.the-variants.{Fine}
+use Rattle.bits.specs.declared.arguments.Arguments.{Arguments}
+use Rattle.bits.specs.declared.arguments.Arguments.the-variants.{Passed}
 use Rattle.bits.specs.declared.Refusal.the-variants as refusal
 use Rattle.trellis.specs.Search.{Nearest, Ambiguous}
 use Rattle.trellis.specs.Words.{OfLength}
 use Rattle.trellis.specs.Nearest.{nearestWords}
 use Rattle.trellis.proofs.Members.{alone, shared, shared-back, at-least-one}
-use Rattle.facch.specs.Decoding.{Content, sound, contentOf, Finished, Settled, Answered, Decoding}
-use Rattle.facch.specs.Received.{observedCount}
+use Rattle.facch.specs.Decoding.{Content, wordValid, contentOf, Finished, Settled, Answered, Decoding}
+use Rattle.bits.specs.Observed.{observedCount}
 use Rattle.facch.specs.Search.{weight}
 use Rattle.facch.specs.Answers.{nearestTo, finished, decodeErasedOf}
 
@@ -25,11 +25,11 @@ use Rattle.facch.specs.Answers.{nearestTo, finished, decodeErasedOf}
 finished-is : {w : List Bool} {corrected observed dvcc : ℕ} {answer : Answer Content} → Finished w corrected observed dvcc answer
     → answer ≡ finished w corrected observed dvcc
 unfolding finished
-finished-is {w} {corrected} {observed} {dvcc} {answer} f = by (sound w dvcc) refl
+finished-is {w} {corrected} {observed} {dvcc} {answer} f = by (wordValid w dvcc) refl
   where
-    by : (right : Bool) → sound w dvcc ≡ right → answer ≡ cond right (accepted (contentOf w corrected observed)) (refused refusal.Crc)
+    by : (right : Bool) → wordValid w dvcc ≡ right → answer ≡ cond right (accepted (contentOf w corrected observed)) (refused refusal.Crc)
     by true e = f .taken e
-    by false e = f .spoilt e
+    by false e = f .failed e
 
 -- ---- the received bits
 module _ (received : List ℕ) (dvcc : ℕ) where
@@ -65,5 +65,5 @@ module _ (received : List ℕ) (dvcc : ℕ) where
         [ yes h ↦ p .scarce h ∙ sym (decode-few h) | no h ↦ by-nearest (omega arith) (ℕ-discrete (length (nearestWords 65 (weight received))) 1) ]
 
   -- a call that was lent 260 bytes 0, 1 and 2
-  pub decoding-is : {lent : Lent} {answer : Answer Content} → lent ≡ Fine → Decoding lent received dvcc answer → answer ≡ decodeErasedOf received dvcc
+  pub decoding-is : {arguments : Arguments} {answer : Answer Content} → arguments ≡ Passed → Decoding arguments received dvcc answer → answer ≡ decodeErasedOf received dvcc
   decoding-is e d = answer-is (d .answered e)

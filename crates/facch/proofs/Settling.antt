@@ -8,8 +8,8 @@ use lib.Dec.{eqb}
 use lib.ListN.{length, getD, length-map}
 use Rattle.bits.specs.Bits.{byte, bits, allBinary}
 use Rattle.bits.specs.Refusals.{Answer, accepted, refused}
-use Rattle.bits.specs.declared.Lent.{Lent}
-use Rattle.bits.specs.declared.Lent.the-variants.{Fine, Refused}
+use Rattle.bits.specs.declared.arguments.Arguments.{Arguments}
+use Rattle.bits.specs.declared.arguments.Arguments.the-variants.{Passed, Refused}
 use Rattle.bits.specs.declared.Refusal.{Refusal}
 use Rattle.bits.specs.declared.Refusal.the-variants as refusal
 use Rattle.bits.proofs.Binary.{bits-bytes, binary-bytes}
@@ -17,14 +17,14 @@ use Rattle.bits.proofs.Refusing.{never-both}
 use Rattle.trellis.specs.declared.Outcome.{Outcome}
 use Rattle.words.specs.Words.{messageIn}
 use Rattle.words.proofs.Parts.{flag}
-use Rattle.facch.specs.Decoding.{Content, contentOf, sound, Finished, Answered, Decoding}
-use Rattle.facch.specs.Received.{observedCount}
+use Rattle.facch.specs.Decoding.{Content, contentOf, wordValid, Finished, Answered, Decoding}
+use Rattle.bits.specs.Observed.{observedCount}
 use Rattle.facch.specs.Search.{weight, Searched}
 
 -- ---- `finish`
-module _ (word : List ℕ) (corrected observed dvcc : ℕ) {right : Bool} (told : right ≡ sound (bits word) dvcc) where
-  pub spoilt-end : not right ≡ true → Finished (bits word) corrected observed dvcc (refused refusal.Crc)
-  spoilt-end t = record { taken = λ s. absurd (false≢true (sym (ap not (told ∙ s)) ∙ t)); spoilt = λ s. refl }
+module _ (word : List ℕ) (corrected observed dvcc : ℕ) {right : Bool} (told : right ≡ wordValid (bits word) dvcc) where
+  pub failed-end : not right ≡ true → Finished (bits word) corrected observed dvcc (refused refusal.Crc)
+  failed-end t = record { taken = λ s. absurd (false≢true (sym (ap not (told ∙ s)) ∙ t)); failed = λ s. refl }
 
   pub taken-end : not right ≡ false → allBinary word ≡ true → {message : ℕ} → message ≡ messageIn 1 (bits word)
       → Finished (bits word) corrected observed dvcc (accepted (record { continuation = eqb (getD word 0 0) 1; message = message; corrected = corrected; observed = observed }))
@@ -32,7 +32,7 @@ module _ (word : List ℕ) (corrected observed dvcc : ℕ) {right : Bool} (told 
   taken-end t binary e =
       record {
         taken = λ s. ap₂ (λ (c : Bool) (m : ℕ). accepted (record { continuation = c; message = m; corrected = corrected; observed = observed })) (flag word binary 0) e;
-        spoilt = λ s. absurd (false≢true (sym t ∙ ap not (told ∙ s)));
+        failed = λ s. absurd (false≢true (sym t ∙ ap not (told ∙ s)));
       }
 
 -- ---- no other answer is Ambiguous
@@ -49,11 +49,11 @@ not-accepted : (x : Content) → _≡_ {A = Answer Content} (accepted x) (refuse
 not-accepted x e = let z : _≡_ {A = ℕ} 0 1 = cc in omega arith
 
 finished-clear : {w : List Bool} {corrected observed dvcc : ℕ} {answer : Answer Content} → Finished w corrected observed dvcc answer → answer ≡ refused refusal.Ambiguous → ⊥
-finished-clear {w} {corrected} {observed} {dvcc} {answer} f e = go (sound w dvcc) refl
+finished-clear {w} {corrected} {observed} {dvcc} {answer} f e = go (wordValid w dvcc) refl
   where
-    go : (b : Bool) → sound w dvcc ≡ b → ⊥
+    go : (b : Bool) → wordValid w dvcc ≡ b → ⊥
     go true t = never e (f .taken t) (not-accepted (contentOf w corrected observed))
-    go false t = never e (f .spoilt t) not-crc
+    go false t = never e (f .failed t) not-crc
 
 -- ---- `settle`
 module _ (received : List ℕ) (dvcc observed : ℕ) (eo : observed ≡ observedCount received) (many : 65 ≤ observed) {word : List ℕ} {r : Outcome} (s : Searched received word r) where
@@ -96,13 +96,13 @@ scarce-end received dvcc e h =
     }
 
 -- ---- `decode` and `decode_erased`
-module _ (received : List ℕ) (dvcc : ℕ) {lent l : Lent} (told : l ≡ lent) where
-  pub declined-end : (why : Refusal) → l ≡ Refused why → Decoding lent received dvcc (refused why)
+module _ (received : List ℕ) (dvcc : ℕ) {arguments l : Arguments} (told : l ≡ arguments) where
+  pub declined-end : (why : Refusal) → l ≡ Refused why → Decoding arguments received dvcc (refused why)
   declined-end why e =
       record {
         declined = λ y ey. let same : y ≡ why = cc in ap refused (sym same);
         answered = λ ef. never-both ef (sym told ∙ e);
       }
 
-  pub answered-end : l ≡ Fine → {answer : Answer Content} → Answered received dvcc answer → Decoding lent received dvcc answer
-  answered-end fine a = record { declined = λ y ey. never-both fine (told ∙ ey); answered = λ ef. a }
+  pub answered-end : l ≡ Passed → {answer : Answer Content} → Answered received dvcc answer → Decoding arguments received dvcc answer
+  answered-end passed a = record { declined = λ y ey. never-both passed (told ∙ ey); answered = λ ef. a }

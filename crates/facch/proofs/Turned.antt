@@ -13,7 +13,8 @@ use Rattle.coding.specs.Codes.{coded, facch}
 use Rattle.trellis.specs.Search.{Nearest, Ambiguous, Found}
 use Rattle.trellis.specs.Words.{OfLength}
 use Rattle.trellis.specs.declared.Outcome.{Outcome}
-use Rattle.tailbiting.specs.TailBiting.{erasedDiffer, tailCoded, tailWeight}
+use Rattle.tailbiting.specs.TailBiting.{tailCoded, tailWeight}
+use Rattle.bits.specs.Observed.{erasedDiffer}
 use Rattle.facch.specs.Words.{tailBiting}
 use Rattle.facch.specs.Search.{weight, Searched}
 

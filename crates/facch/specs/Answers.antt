@@ -7,8 +7,8 @@ use lib.ListN.{length, getD}
 use Rattle.bits.specs.Refusals.{Answer, accepted, refused}
 use Rattle.bits.specs.declared.Refusal.the-variants as refusal
 use Rattle.trellis.specs.Nearest.{nearestWords}
-use Rattle.facch.specs.Decoding.{Content, contentOf, sound}
-use Rattle.facch.specs.Received.{observedCount}
+use Rattle.facch.specs.Decoding.{Content, contentOf, wordValid}
+use Rattle.bits.specs.Observed.{observedCount}
 use Rattle.facch.specs.Search.{weight}
 
 -- the words of 65 bits with the fewest disagreements over the observed bits
@@ -17,7 +17,7 @@ nearestTo received = nearestWords 65 (weight received)
 
 -- the content of a word where its checksum is right, else Crc
 unfoldable pub finished : List Bool → ℕ → ℕ → ℕ → Answer Content
-finished w corrected observed dvcc = cond (sound w dvcc) (accepted (contentOf w corrected observed)) (refused refusal.Crc)
+finished w corrected observed dvcc = cond (wordValid w dvcc) (accepted (contentOf w corrected observed)) (refused refusal.Crc)
 
 -- Fewer than 65 observed are too few. One word alone weighs least and is the answer, with its disagreements; where more share the least, Ambiguous.
 unfoldable pub decodeErasedOf : List ℕ → ℕ → Answer Content

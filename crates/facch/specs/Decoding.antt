@@ -6,17 +6,19 @@ use mathlib.Core.List.{List}
 use Prim.Native.Nat.{ℕ, _<_, _≤_}
 use lib.ListN.{getD}
 use Rattle.bits.specs.Refusals.{Answer, accepted, refused}
-use Rattle.bits.specs.declared.Lent.{Lent}
-use Rattle.bits.specs.declared.Lent.the-variants.{Fine, Refused}
+use Rattle.bits.specs.declared.arguments.Arguments.{Arguments}
+use Rattle.bits.specs.declared.arguments.Arguments.the-variants.{Passed, Refused}
 use Rattle.bits.specs.declared.Refusal.{Refusal}
 use Rattle.bits.specs.declared.Refusal.the-variants as refusal
 use Rattle.trellis.specs.Search.{Nearest, Ambiguous}
 use Rattle.trellis.specs.Words.{OfLength}
-use Rattle.words.specs.Words as words
+use Rattle.checksums.specs.Checksums.{crcValid}
+use Rattle.checksums.specs.declared.CrcMode.the-variants.{Addressed}
 use Rattle.words.specs.Words.{messageIn}
 use Rattle.facch.specs.declared.Decoded.{Decoded}
 use Rattle.facch.specs.declared.Decoded.the-variants as decoded
-use Rattle.facch.specs.Received.{observedCount}
+use Rattle.bits.specs.Arguments.{exactBits}
+use Rattle.bits.specs.Observed.{exactErasable, observedCount}
 use Rattle.facch.specs.Search.{weight}
 
 -- the content of a word, the message as a number with its first bit highest
@@ -38,13 +40,13 @@ contentOf w corrected observed =
     record { continuation = getD w 0 false; message = messageIn 1 w; corrected = corrected; observed = observed }
 
 -- whether the checksum in a word is that of its first 49 bits
-abbrev pub sound : List Bool → ℕ → Bool
-sound w dvcc = words.sound 49 w dvcc
+abbrev pub wordValid : List Bool → ℕ → Bool
+wordValid w dvcc = crcValid 49 w dvcc Addressed
 
 -- the end of a decoding: the content where the checksum is right, else Crc
 pub record Finished (w : List Bool) (corrected observed dvcc : ℕ) (answer : Answer Content) : Type 0 where
-  pub taken : sound w dvcc ≡ true → answer ≡ accepted (contentOf w corrected observed)
-  pub spoilt : sound w dvcc ≡ false → answer ≡ refused refusal.Crc
+  pub taken : wordValid w dvcc ≡ true → answer ≡ accepted (contentOf w corrected observed)
+  pub failed : wordValid w dvcc ≡ false → answer ≡ refused refusal.Crc
 
 -- the nearest word decides
 pub record Settled (received : List ℕ) (dvcc : ℕ) (answer : Answer Content) : Type 0 where
@@ -59,6 +61,13 @@ pub record Answered (received : List ℕ) (dvcc : ℕ) (answer : Answer Content)
   pub only-unclear : answer ≡ refused refusal.Ambiguous → Ambiguous (OfLength 65) (weight received)
   pub settled : 65 ≤ observedCount received → (Ambiguous (OfLength 65) (weight received) → ⊥) → Settled received dvcc answer
 
-pub record Decoding (lent : Lent) (received : List ℕ) (dvcc : ℕ) (answer : Answer Content) : Type 0 where
-  pub declined : (why : Refusal) → lent ≡ Refused why → answer ≡ refused why
-  pub answered : lent ≡ Fine → Answered received dvcc answer
+pub record Decoding (arguments : Arguments) (received : List ℕ) (dvcc : ℕ) (answer : Answer Content) : Type 0 where
+  pub declined : (why : Refusal) → arguments ≡ Refused why → answer ≡ refused why
+  pub answered : arguments ≡ Passed → Answered received dvcc answer
+
+-- ---- what the calls test first: 260 bytes 0, 1 and 2, or 260 bits
+abbrev pub erasedArguments : List ℕ → Arguments
+erasedArguments coded = exactErasable 260 coded
+
+abbrev pub decodeArguments : List ℕ → Arguments
+decodeArguments coded = exactBits 260 coded

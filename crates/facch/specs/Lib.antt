@@ -5,6 +5,5 @@
 -- The answer of FACCH's decoding as one definition.
 pub mod Decoding
 pub mod Words
-pub mod Received
 pub mod Search
 pub mod Answers

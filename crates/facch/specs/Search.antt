@@ -7,7 +7,7 @@ use Rattle.bits.specs.Bits.{bytes, tally}
 use Rattle.trellis.specs.Search.{Nearest, Ambiguous}
 use Rattle.trellis.specs.Words.{OfLength}
 use Rattle.trellis.specs.declared.Outcome.{Outcome}
-use Rattle.tailbiting.specs.TailBiting.{erasedDiffer}
+use Rattle.bits.specs.Observed.{erasedDiffer}
 use Rattle.facch.specs.Words.{tailBiting}
 
 -- the disagreements of a word over the observed bits

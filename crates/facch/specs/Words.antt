@@ -4,8 +4,8 @@ use mathlib.Core.List.{List, [], _∷_, _++_, reverse}
 use Prim.Native.Nat.{ℕ, _^_}
 use lib.ListN.{length, take, drop}
 use Rattle.bits.specs.Bits.{bytes}
-use Rattle.bits.specs.Refusals.{firstOf, exactOf, belowOf}
-use Rattle.bits.specs.declared.Lent.{Lent}
+use Rattle.bits.specs.Arguments.{firstRefusal, exactOf, belowOf}
+use Rattle.bits.specs.declared.arguments.Arguments.{Arguments}
 use Rattle.coding.specs.Codes.{coded, facch}
 use Rattle.words.specs.Words.{madeOf}
 use Rattle.bits.specs.declared.Wrote.{Wrote}
@@ -21,9 +21,9 @@ tailBiting w = coded facch (reverse (take 5 w)) (drop 5 w ++ take 5 w)
 
 -- ---- encode
 -- room for the coded bits, then Symbol where the message has more than 48 bits
-abbrev pub lentEncode : ℕ → ℕ → Lent
-lentEncode message room = firstOf (exactOf 260 room) (belowOf (2 ^ 48) message)
+abbrev pub encodeArguments : ℕ → ℕ → Arguments
+encodeArguments message room = firstRefusal (exactOf 260 room) (belowOf (2 ^ 48) message)
 
 abbrev pub Encoding : Bool → ℕ → ℕ → List ℕ → List ℕ → Wrote → Type 0
 Encoding continuation message dvcc coded₀ coded r =
-    Written (lentEncode message (length coded₀)) (bytes (tailBiting (wordOf continuation message dvcc))) coded₀ coded r
+    Written (encodeArguments message (length coded₀)) (bytes (tailBiting (wordOf continuation message dvcc))) coded₀ coded r

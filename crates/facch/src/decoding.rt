@@ -1,34 +1,35 @@
 // Decoding of a word, some of its bits unobserved (IS-54-B 2.7.3.1.1).
 // Ported from 136-bts, facch.rs, and changed (see NOTICE).
 use crate::Decoded;
-use crate::received::count_observed;
-use crate::received::lent_decode;
-use crate::received::lent_erased;
 use crate::search::nearest_word;
-use bits::Lent;
 use bits::Refusal;
-use words::is_sound;
+use bits::arguments::Arguments;
+use bits::arguments::exact_bits;
+use bits::observed::count_observed;
+use bits::observed::exact_erasable;
+use checksums::CrcMode;
+use checksums::crc_valid;
 ghost use mathlib.Core.Bool.{true};
 ghost use mathlib.Core.Path.{_≡_};
 ghost use Prim.Native.Nat.{_≤_};
 ghost use lib.ListN.{length};
 ghost use Rattle.bits.specs.Bits.{allBinary, bits};
-ghost use Rattle.tailbiting.specs.TailBiting.{allErasable};
-ghost use Rattle.facch.specs.Decoding.{Answered, Decoding, Finished, decodeAnswer};
-ghost use Rattle.facch.specs.Received.{lentDecode, lentErased, observedCount};
+ghost use Rattle.bits.specs.Observed.{allErasable, observedCount};
+ghost use Rattle.facch.specs.Decoding.{Answered, Decoding, Finished, decodeAnswer, decodeArguments, erasedArguments};
 
 // The content of a word, where its checksum is right.
 fn finish(word: &[u8], corrected: u16, observed: u16, dvcc: u8) -> Decoded
     requires { ⌜ (length (now word) ≡ 65) × (allBinary (now word) ≡ true) ⌝ }
     ensures { λ r. ⌜ Finished (bits (now (word .entry))) corrected observed dvcc (decodeAnswer r) ⌝ }
 {
-    let right = is_sound(49, word, dvcc);
+    let right = crc_valid(49, word, dvcc, CrcMode::Addressed);
     if !right {
         return Decoded::Refused(Refusal::Crc);
     }
     let message = words::message(1, word);
+    let continuation = word[0] == 1;
     Decoded::Accepted {
-        continuation: word[0] == 1,
+        continuation,
         message,
         corrected,
         observed,
@@ -63,10 +64,10 @@ fn answer(coded: &[u8], dvcc: u8) -> Decoded
 
 // The content of the word nearest to the coded bits over those that are observed; a byte 2 is not.
 pub fn decode_erased(coded: &[u8], dvcc: u8) -> Decoded
-    ensures { λ r. ⌜ Decoding (lentErased (now (coded .entry))) (now (coded .entry)) dvcc (decodeAnswer r) ⌝ }
+    ensures { λ r. ⌜ Decoding (erasedArguments (now (coded .entry))) (now (coded .entry)) dvcc (decodeAnswer r) ⌝ }
 {
-    let ready = lent_erased(coded);
-    if let Lent::Refused(why) = ready {
+    let ready = exact_erasable(260, coded);
+    if let Arguments::Refused(why) = ready {
         return Decoded::Refused(why);
     }
     answer(coded, dvcc)
@@ -74,10 +75,10 @@ pub fn decode_erased(coded: &[u8], dvcc: u8) -> Decoded
 
 // The same of bits that are all observed.
 pub fn decode(coded: &[u8], dvcc: u8) -> Decoded
-    ensures { λ r. ⌜ Decoding (lentDecode (now (coded .entry))) (now (coded .entry)) dvcc (decodeAnswer r) ⌝ }
+    ensures { λ r. ⌜ Decoding (decodeArguments (now (coded .entry))) (now (coded .entry)) dvcc (decodeAnswer r) ⌝ }
 {
-    let ready = lent_decode(coded);
-    if let Lent::Refused(why) = ready {
+    let ready = exact_bits(260, coded);
+    if let Arguments::Refused(why) = ready {
         return Decoded::Refused(why);
     }
     answer(coded, dvcc)

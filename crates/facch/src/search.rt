@@ -6,7 +6,7 @@ ghost use mathlib.Core.Bool.{true};
 ghost use mathlib.Core.List.{_++_};
 ghost use mathlib.Core.Path.{_≡_};
 ghost use lib.ListN.{drop, length, take};
-ghost use Rattle.tailbiting.specs.TailBiting.{allErasable};
+ghost use Rattle.bits.specs.Observed.{allErasable};
 ghost use Rattle.facch.specs.Search.{Searched};
 
 // Writes the word of the search's inputs, which begin with its bit 5 and end with its bits 0 to 4.

@@ -1,11 +1,12 @@
 // Encoding of a word (IS-54-B 2.7.3.1.1).
 // Ported from 136-bts, facch.rs, and changed (see NOTICE).
-use bits::Lent;
 use bits::Wrote;
-use bits::below;
-use bits::exact;
-use bits::first;
+use bits::arguments::Arguments;
+use bits::arguments::below;
+use bits::arguments::exact;
+use bits::arguments::first_refusal;
 use coding::facch::convolutional_encode;
+use words::MESSAGES;
 use words::complete;
 ghost use mathlib.Core.Bool.{true};
 ghost use mathlib.Core.List.{reverse};
@@ -14,17 +15,14 @@ ghost use Prim.Native.Nat.{_<_, _≤_};
 ghost use lib.ListN.{length, take};
 ghost use Rattle.bits.specs.Bits.{allBinary, bits, bytes};
 ghost use Rattle.coding.specs.Registers.{memoryHigh};
-ghost use Rattle.facch.specs.Words.{Encoding, lentEncode, tailBiting};
+ghost use Rattle.facch.specs.Words.{Encoding, encodeArguments, tailBiting};
 
-// The number of messages of 48 bits.
-const MESSAGES: u64 = 0x1000000000000;
-
-fn lent_encode(message: u64, room: usize) -> Lent
-    ensures { λ r. ⌜ r ≡ lentEncode message room ⌝ }
+fn encode_arguments(message: u64, room: usize) -> Arguments
+    ensures { λ r. ⌜ r ≡ encodeArguments message room ⌝ }
 {
     let length = exact(260, room);
     let symbol = below(MESSAGES, message);
-    first(length, symbol)
+    first_refusal(length, symbol)
 }
 
 // The memory that a word starts from: its first five bits, the first lowest.
@@ -49,8 +47,8 @@ fn encode_word(word: &[u8], coded: &mut [u8])
 pub fn encode(continuation: bool, message: u64, dvcc: u8, coded: &mut [u8]) -> Wrote
     ensures { λ r. ⌜ Encoding continuation message dvcc (now (coded .entry)) (now (coded .exit)) r ⌝ }
 {
-    let ready = lent_encode(message, coded.len());
-    if let Lent::Refused(why) = ready {
+    let ready = encode_arguments(message, coded.len());
+    if let Arguments::Refused(why) = ready {
         return Wrote::Refused(why);
     }
     let mut word = [0u8; 65];

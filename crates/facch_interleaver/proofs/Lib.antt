@@ -3,5 +3,4 @@ pub mod Table
 pub mod Columns
 pub mod Passing
 pub mod Spreading
-pub mod Answering
 pub mod Interleaved

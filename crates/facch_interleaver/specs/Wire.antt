@@ -4,14 +4,14 @@ use mathlib.Core.List.{List, [], _∷_}
 use Prim.Native.Nat.{ℕ, _/_, _%_, _<_}
 use lib.ListN.{length, getD, replicate}
 use Rattle.bits.specs.Places.{listed, placeIn}
-use Rattle.bits.specs.Refusals.{firstOf, exactOf, binaryOf}
-use Rattle.bits.specs.declared.Lent.{Lent}
+use Rattle.bits.specs.Arguments.{bitsAndRoom}
+use Rattle.bits.specs.declared.arguments.Arguments.{Arguments}
 use Rattle.facch_interleaver.specs.declared.WordHalf.{WordHalf}
 use Rattle.facch_interleaver.specs.declared.WordHalf.the-variants.{Start, End}
 use Rattle.bits.specs.declared.Wrote.{Wrote}
 use Rattle.bits.specs.Calls.{Written}
 use Rattle.interleaving.specs.Slots.{carried, collected, byRow}
-use Rattle.interleaving.specs.Calls.{lentTwo}
+use Rattle.interleaving.specs.Calls.{twoArguments}
 
 -- IS-54-B Table 2.7.3.1.1.2-1, as the original's rule gives it, row by row: the place in the word of the coded bit that each column carries
 unfoldable pub table : List (List ℕ)
@@ -81,14 +81,14 @@ pub record Spread (Of : ℕ → Type 0) (slot coded₀ coded : List ℕ) : Type 
 
 -- ---- the calls
 -- a slice and room for the other
-abbrev pub lentOne : List ℕ → ℕ → Lent
-lentOne a room = firstOf (exactOf 260 (length a)) (firstOf (exactOf 260 room) (binaryOf a))
+abbrev pub oneArguments : List ℕ → ℕ → Arguments
+oneArguments a room = bitsAndRoom 260 a 260 room
 
 abbrev pub Interleaving : List ℕ → List ℕ → List ℕ → List ℕ → Wrote → Type 0
-Interleaving previous current slot₀ slot r = Written (lentTwo previous current (length slot₀)) (interleaved 0 previous current) slot₀ slot r
+Interleaving previous current slot₀ slot r = Written (twoArguments previous current (length slot₀)) (interleaved 0 previous current) slot₀ slot r
 
 abbrev pub Deinterleaving : List ℕ → List ℕ → List ℕ → List ℕ → Wrote → Type 0
-Deinterleaving first second coded₀ coded r = Written (lentTwo first second (length coded₀)) (deinterleaved 0 first second) coded₀ coded r
+Deinterleaving first second coded₀ coded r = Written (twoArguments first second (length coded₀)) (deinterleaved 0 first second) coded₀ coded r
 
 abbrev pub Observing : List ℕ → WordHalf → List ℕ → List ℕ → Wrote → Type 0
-Observing slot half coded₀ coded r = Written (lentOne slot (length coded₀)) (observed half slot) coded₀ coded r
+Observing slot half coded₀ coded r = Written (oneArguments slot (length coded₀)) (observed half slot) coded₀ coded r

@@ -1,16 +1,14 @@
 // The slot order (IS-54-B Table 2.7.3.1.1.2-1): a slot carries half of the word before and half of its own.
 // Ported from 136-bts, facch.rs, and changed (see NOTICE).
-use bits::Lent;
 use bits::Wrote;
-use bits::exact;
-use bits::first;
-use bits::only_bits;
-use interleaving::lent_two;
+use bits::arguments::Arguments;
+use bits::arguments::bits_and_room;
+use bits::arguments::two_and_room;
 ghost use mathlib.Core.Path.{_≡_};
 ghost use Prim.Native.Nat.{_/_, _%_, _<_};
 ghost use lib.ListN.{getD, length};
 ghost use Rattle.interleaving.specs.Slots.{byRow};
-ghost use Rattle.facch_interleaver.specs.Wire.{Deinterleaving, Interleaving, Observing, Spread, deinterleaved, interleaved, lentOne, observed, parityOf, placeOf};
+ghost use Rattle.facch_interleaver.specs.Wire.{Deinterleaving, Interleaving, Observing, Spread, deinterleaved, interleaved, observed, parityOf, placeOf};
 
 // The half of a word that a slot carries: its odd rows start a word, its even rows end one.
 pub enum WordHalf {
@@ -143,19 +141,12 @@ fn spread_half(slot: &[u8], half: WordHalf, coded: &mut [u8])
     spread_rows(parity_of(half), slot, coded);
 }
 
-fn lent_one(a: &[u8], room: usize) -> Lent
-    ensures { λ r. ⌜ r ≡ lentOne (now (a .entry)) room ⌝ }
-{
-    let length = exact(260, a.len());
-    first(length, first(exact(260, room), only_bits(a)))
-}
-
 // Writes the slot that finishes the previous word and starts the current one.
 pub fn interleave(previous: &[u8], current: &[u8], slot: &mut [u8]) -> Wrote
     ensures { λ r. ⌜ Interleaving (now (previous .entry)) (now (current .entry)) (now (slot .entry)) (now (slot .exit)) r ⌝ }
 {
-    let ready = lent_two(previous, current, slot.len());
-    if let Lent::Refused(why) = ready {
+    let ready = two_and_room(260, previous, 260, current, 260, slot.len());
+    if let Arguments::Refused(why) = ready {
         return Wrote::Refused(why);
     }
     gather(previous, current, slot);
@@ -166,8 +157,8 @@ pub fn interleave(previous: &[u8], current: &[u8], slot: &mut [u8]) -> Wrote
 pub fn observe_half(slot: &[u8], half: WordHalf, coded: &mut [u8]) -> Wrote
     ensures { λ r. ⌜ Observing (now (slot .entry)) half (now (coded .entry)) (now (coded .exit)) r ⌝ }
 {
-    let ready = lent_one(slot, coded.len());
-    if let Lent::Refused(why) = ready {
+    let ready = bits_and_room(260, slot, 260, coded.len());
+    if let Arguments::Refused(why) = ready {
         return Wrote::Refused(why);
     }
     spread_half(slot, half, coded);
@@ -178,8 +169,8 @@ pub fn observe_half(slot: &[u8], half: WordHalf, coded: &mut [u8]) -> Wrote
 pub fn deinterleave(first: &[u8], second: &[u8], coded: &mut [u8]) -> Wrote
     ensures { λ r. ⌜ Deinterleaving (now (first .entry)) (now (second .entry)) (now (coded .entry)) (now (coded .exit)) r ⌝ }
 {
-    let ready = lent_two(first, second, coded.len());
-    if let Lent::Refused(why) = ready {
+    let ready = two_and_room(260, first, 260, second, 260, coded.len());
+    if let Arguments::Refused(why) = ready {
         return Wrote::Refused(why);
     }
     spread(first, second, coded);

@@ -8,25 +8,25 @@ use lib.Dec.{T}
 use lib.ListN.{length, getD, List·getD-map}
 use Rattle.bits.specs.Bits.{byte, bytes, allBinary}
 use Rattle.bits.specs.Refusals.{Answer, accepted}
-use Rattle.bits.specs.declared.Lent.the-variants.{Fine}
+use Rattle.bits.specs.declared.arguments.Arguments.the-variants.{Passed}
 use Rattle.bits.proofs.Tally.{tally-zero, zero-at}
 use Rattle.bits.proofs.Binary.{byte-below, differ-same, differ-none}
-use Rattle.tailbiting.specs.TailBiting.{erasedDiffer}
-use Rattle.tailbiting.proofs.Erasable.{erasable-all, erased-none}
+use Rattle.bits.specs.Observed.{erasedDiffer, observedCount}
+use Rattle.bits.proofs.Below.{below-all}
+use Rattle.bits.proofs.Erased.{erased-none}
 use Rattle.facch_interleaver.specs.declared.WordHalf.{WordHalf}
 use Rattle.facch_interleaver.specs.declared.WordHalf.the-variants.{Start, End}
 use Rattle.bits.specs.declared.Wrote.{Wrote}
-use Rattle.interleaving.specs.Calls.{lentTwo}
+use Rattle.interleaving.specs.Calls.{twoArguments}
 use Rattle.facch_interleaver.specs.Wire.{interleaved, observed, Interleaving, Observing}
 use Rattle.facch.specs.Words.{wordOf, tailBiting, Encoding}
 use Rattle.facch.specs.Decoding.{Content, contentOf, Decoding}
-use Rattle.facch.specs.Received.{observedCount, lentErased}
+use Rattle.facch.specs.Decoding.{erasedArguments}
 use Rattle.facch.specs.Search.{weight}
-use Rattle.facch_interleaver.proofs.Answering.{fine-one}
-use Rattle.facch.proofs.Receiving.{fine-bytes}
+use Rattle.bits.proofs.Refusing.{erasable-passed, room-passed}
 use Rattle.facch_laws.proofs.Halves.{slotted, carries, slotOf, observed-length, word-observed, half-count}
 use Rattle.facch_laws.proofs.Determined.{half-determines}
-use Rattle.facch_laws.proofs.RoundTrip.{agreed, erased-byte, biting-length, word-length, sound-own, content-own, written}
+use Rattle.facch_laws.proofs.RoundTrip.{agreed, erased-byte, biting-length, word-length, valid-own, content-own, written}
 
 -- ---- a byte of a half: the coded bit b where it is carried, else 2
 low : (c b : Bool) → cond c (byte b) 2 < 3
@@ -54,10 +54,10 @@ module _ (half : WordHalf) (w : List Bool) (size : length w ≡ 65) (other : Lis
       word-observed (bytes (tailBiting w)) place h half other
       ∙ ap (λ (x : ℕ). cond (carries half place) x 2) (List·getD-map byte (tailBiting w) place false)
 
-  fine : lentErased received ≡ Fine
-  fine =
-      fine-bytes received received-size
-      (erasable-all received
+  passed : erasedArguments received ≡ Passed
+  passed =
+      erasable-passed 260 received received-size
+      (below-all 3 received
       (λ k h.
       let b : k < 260 = omega (arith, received-size) in
       subst (λ (x : ℕ). x < 3) (sym (received-at k b)) (low (carries half k) (getD (tailBiting w) k false))))
@@ -90,44 +90,44 @@ module _ (continuation : Bool) (message dvcc : ℕ) (h : message < 2 ^ 48) where
   sent = bytes (tailBiting (wordOf continuation message dvcc))
 
   half-trip : (half : WordHalf) (other : List ℕ) {answer : Answer Content}
-      → Decoding (lentErased (observed half (slotOf half other sent))) (observed half (slotOf half other sent)) dvcc answer → Read continuation message answer
+      → Decoding (erasedArguments (observed half (slotOf half other sent))) (observed half (slotOf half other sent)) dvcc answer → Read continuation message answer
   half-trip half other d =
       let w : List Bool = wordOf continuation message dvcc in
       let size : length w ≡ 65 = word-length continuation message dvcc in
       let n : observedCount (observed half (slotOf half other sent)) ≡ 130 = many half w size other in
-      agreed (observed half (slotOf half other sent)) w size (agrees half w size other) (only half w size other) d (fine half w size other) (omega (arith, n))
-      (sound-own continuation message dvcc)
+      agreed (observed half (slotOf half other sent)) w size (agrees half w size other) (only half w size other) d (passed half w size other) (omega (arith, n))
+      (valid-own continuation message dvcc)
       ∙ ap accepted (ap (λ (k : ℕ). contentOf w 0 k) n ∙ content-own continuation message dvcc 130 h)
 
   -- from the first of its slots, whatever word that finishes
   pub start-trip : (other : List ℕ) {answer : Answer Content}
-      → Decoding (lentErased (observed Start (interleaved 0 other sent))) (observed Start (interleaved 0 other sent)) dvcc answer → Read continuation message answer
+      → Decoding (erasedArguments (observed Start (interleaved 0 other sent))) (observed Start (interleaved 0 other sent)) dvcc answer → Read continuation message answer
   start-trip other d = half-trip Start other d
 
   -- from the second, whatever word starts in it
   pub end-trip : (other : List ℕ) {answer : Answer Content}
-      → Decoding (lentErased (observed End (interleaved 0 sent other))) (observed End (interleaved 0 sent other)) dvcc answer → Read continuation message answer
+      → Decoding (erasedArguments (observed End (interleaved 0 sent other))) (observed End (interleaved 0 sent other)) dvcc answer → Read continuation message answer
   end-trip other d = half-trip End other d
 
   -- ---- the same of the calls
   observed-trip : (half : WordHalf) (other : List ℕ) (r : Wrote) {slot received₀ received : List ℕ} → length received₀ ≡ 260
       → (slot ≡ slotOf half other sent) × (length slot ≡ 260) × (allBinary slot ≡ true) → Observing slot half received₀ received r
-      → {answer : Answer Content} → Decoding (lentErased received) received dvcc answer → Read continuation message answer
+      → {answer : Answer Content} → Decoding (erasedArguments received) received dvcc answer → Read continuation message answer
   observed-trip half other r {slot} {received₀} room s o {answer} d =
       half-trip half other
-      (subst (λ (l : List ℕ). Decoding (lentErased l) l dvcc answer)
-      (o .done (fine-one slot (length received₀) (s .1) room (s .2)) .1 ∙ ap (observed half) (s .0)) d)
+      (subst (λ (l : List ℕ). Decoding (erasedArguments l) l dvcc answer)
+      (o .done (room-passed 260 slot 260 (length received₀) (s .1) room (s .2)) .1 ∙ ap (observed half) (s .0)) d)
 
   module _ {coded₀ coded : List ℕ} (r : Wrote) (room : length coded₀ ≡ 260) (e : Encoding continuation message dvcc coded₀ coded r)
       (other : List ℕ) (r′ r″ : Wrote) {slot₀ slot received₀ received : List ℕ} (room′ : length received₀ ≡ 260) where
-    pub calls-start-trip : lentTwo other coded (length slot₀) ≡ Fine → Interleaving other coded slot₀ slot r′ → Observing slot Start received₀ received r″
-        → {answer : Answer Content} → Decoding (lentErased received) received dvcc answer → Read continuation message answer
+    pub calls-start-trip : twoArguments other coded (length slot₀) ≡ Passed → Interleaving other coded slot₀ slot r′ → Observing slot Start received₀ received r″
+        → {answer : Answer Content} → Decoding (erasedArguments received) received dvcc answer → Read continuation message answer
     calls-start-trip f i o d =
         let s = slotted other coded r′ f i in
         observed-trip Start other r″ room′ (s .0 ∙ ap (interleaved 0 other) (written continuation message dvcc h r room e), s .1, s .2) o d
 
-    pub calls-end-trip : lentTwo coded other (length slot₀) ≡ Fine → Interleaving coded other slot₀ slot r′ → Observing slot End received₀ received r″
-        → {answer : Answer Content} → Decoding (lentErased received) received dvcc answer → Read continuation message answer
+    pub calls-end-trip : twoArguments coded other (length slot₀) ≡ Passed → Interleaving coded other slot₀ slot r′ → Observing slot End received₀ received r″
+        → {answer : Answer Content} → Decoding (erasedArguments received) received dvcc answer → Read continuation message answer
     calls-end-trip f i o d =
         let s = slotted coded other r′ f i in
         observed-trip End other r″ room′ (s .0 ∙ ap (λ (l : List ℕ). interleaved 0 l other) (written continuation message dvcc h r room e), s .1, s .2) o d

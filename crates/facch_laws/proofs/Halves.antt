@@ -11,20 +11,20 @@ use Rattle.bits.specs.Refusals.{accepted}
 use Rattle.bits.specs.Places.{listed, placeIn}
 use Rattle.bits.proofs.Binary.{binary-at}
 use Rattle.bits.proofs.Listed.{is-listed}
-use Rattle.bits.specs.declared.Lent.the-variants.{Fine}
+use Rattle.bits.specs.declared.arguments.Arguments.the-variants.{Passed}
 use Rattle.bits.specs.declared.Wrote.{Wrote}
 use Rattle.facch_interleaver.specs.declared.WordHalf.{WordHalf}
 use Rattle.facch_interleaver.specs.declared.WordHalf.the-variants.{Start, End}
 use Rattle.interleaving.specs.Slots.{byRow}
-use Rattle.interleaving.specs.Calls.{lentTwo}
+use Rattle.interleaving.specs.Calls.{twoArguments}
 use Rattle.interleaving.proofs.RoundTrip.{between-two}
-use Rattle.interleaving.proofs.Answering.{two-fine, two-bits, fine-two}
+use Rattle.bits.proofs.Refusing.{passed-two, two-passed}
 use Rattle.facch_interleaver.specs.Wire.{table, placeOf, placeAt, wireOf, interleaved, deinterleaved, observed, Interleaving, Deinterleaving}
 use Rattle.bits.specs.Calls.{wroteAnswer}
-use Rattle.facch.specs.Received.{seen, observedCount}
+use Rattle.bits.specs.Observed.{observedOne, observedCount}
 use Rattle.facch_interleaver.proofs.Table.{wire-below, place-of-wire}
 use Rattle.facch_interleaver.proofs.Interleaved.{interleaved-length, deinterleaved-length, interleaved-at, deinterleaved-at, binary-interleaved}
-use Rattle.facch.proofs.Receiving.{not-seen, is-one}
+use Rattle.bits.proofs.Erased.{not-observed, is-observed}
 
 module _ {A : Type 0} (d : A) where
   -- what a slot carries of a word: its even rows of the one before it, its odd rows of its own
@@ -44,22 +44,22 @@ module _ {A : Type 0} (d : A) where
   round-trip previous word next size = between-two d placeAt wireOf wire-below place-of-wire previous word next size
 
 -- the same of the calls
-pub slotted : (previous current : List ℕ) (r : Wrote) {slot₀ slot : List ℕ} → lentTwo previous current (length slot₀) ≡ Fine → Interleaving previous current slot₀ slot r
+pub slotted : (previous current : List ℕ) (r : Wrote) {slot₀ slot : List ℕ} → twoArguments previous current (length slot₀) ≡ Passed → Interleaving previous current slot₀ slot r
     → (slot ≡ interleaved 0 previous current) × (length slot ≡ 260) × (allBinary slot ≡ true)
 slotted previous current r {slot₀} {slot} f i =
-    let b = two-bits previous current (length slot₀) f in
+    let b = passed-two 260 previous 260 current 260 (length slot₀) refl f .1 in
     let s : slot ≡ interleaved 0 previous current = i .done f .1 in
     (s, ap length s ∙ interleaved-length 0 previous current, ap allBinary s ∙ binary-interleaved previous current (b .0) (b .1))
 
 pub calls-round-trip : (previous word next : List ℕ) (r r′ r″ : Wrote) {slot₀ slot slot₀′ slot′ coded₀ coded : List ℕ}
-    → lentTwo previous word (length slot₀) ≡ Fine → lentTwo word next (length slot₀′) ≡ Fine → length coded₀ ≡ 260
+    → twoArguments previous word (length slot₀) ≡ Passed → twoArguments word next (length slot₀′) ≡ Passed → length coded₀ ≡ 260
     → Interleaving previous word slot₀ slot r → Interleaving word next slot₀′ slot′ r′ → Deinterleaving slot slot′ coded₀ coded r″
     → (wroteAnswer r″ ≡ accepted tt) × (coded ≡ word)
 calls-round-trip previous word next r r′ r″ {slot₀} {slot} {slot₀′} {slot′} {coded₀} {coded} f f′ room i i′ e =
     let s = slotted previous word r f i in
     let s′ = slotted word next r′ f′ i′ in
-    let d = e .done (fine-two slot slot′ (length coded₀) (s .1) (s′ .1) room (s .2) (s′ .2)) in
-    (d .0, d .1 ∙ ap₂ (deinterleaved 0) (s .0) (s′ .0) ∙ round-trip 0 previous word next (two-fine previous word (length slot₀) refl f .1))
+    let d = e .done (two-passed 260 slot 260 slot′ 260 (length coded₀) (s .1) (s′ .1) room (s .2) (s′ .2)) in
+    (d .0, d .1 ∙ ap₂ (deinterleaved 0) (s .0) (s′ .0) ∙ round-trip 0 previous word next (passed-two 260 previous 260 word 260 (length slot₀) refl f .0 .1))
 
 -- ---- one slot
 -- the first of a word's slots carries the places in its odd rows, the second those in its even rows
@@ -119,7 +119,7 @@ among : ℕ → (ℕ → Bool) → ℕ
 among zero g = 0
 among (suc n) g = byte (g 0) + among n (λ i. g (suc i))
 
-counted : (l : List ℕ) (g : ℕ → Bool) → ((k : ℕ) → k < length l → seen (getD l k 0) ≡ byte (g k)) → observedCount l ≡ among (length l) g
+counted : (l : List ℕ) (g : ℕ → Bool) → ((k : ℕ) → k < length l → observedOne (getD l k 0) ≡ byte (g k)) → observedCount l ≡ among (length l) g
 unfolding observedCount among
 counted [] g p = refl
 counted (x ∷ l) g p = ap₂ (λ (m n : ℕ). m + n) (p 0 (omega arith)) (counted l (λ k. g (suc k)) (λ k h. p (suc k) (omega arith)))
@@ -133,12 +133,12 @@ half-rows End = refl
 pub half-count : (half : WordHalf) (l : List ℕ) (f : ℕ → ℕ) → length l ≡ 260 → ((place : ℕ) → place < 260 → f place < 2)
     → ((place : ℕ) → place < 260 → getD l place 0 ≡ cond (carries half place) (f place) 2) → observedCount l ≡ 130
 half-count half l f size low at =
-    counted l (carries half) (λ k h. ap seen (at k (omega arith)) ∙ go (carries half k) (f k) (low k (omega arith)))
+    counted l (carries half) (λ k h. ap observedOne (at k (omega arith)) ∙ go (carries half k) (f k) (low k (omega arith)))
     ∙ ap (λ (n : ℕ). among n (carries half)) size ∙ half-rows half
   where
-    go : (b : Bool) (x : ℕ) → x < 2 → seen (cond b x 2) ≡ byte b
-    go true x h = sym (is-one x (λ e. omega arith))
-    go false x h = sym (not-seen 2 refl)
+    go : (b : Bool) (x : ℕ) → x < 2 → observedOne (cond b x 2) ≡ byte b
+    go true x h = sym (is-observed x (λ e. omega arith))
+    go false x h = sym (not-observed 2 refl)
 
 pub half-observed : (slot : List ℕ) → allBinary slot ≡ true → length slot ≡ 260 → (half : WordHalf) → observedCount (observed half slot) ≡ 130
 half-observed slot binary size half =

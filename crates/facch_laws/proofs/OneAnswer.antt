@@ -7,24 +7,26 @@ use native.Mathlib.Decide.{decLt}
 use native.Mathlib.Omega.{arith}
 use lib.ListN.{length}
 use Rattle.bits.specs.Bits.{allBinary}
-use Rattle.bits.specs.Refusals.{Answer, refused, firstOf, exactOf, binaryOf}
-use Rattle.bits.specs.declared.Lent.{Lent}
-use Rattle.bits.specs.declared.Lent.the-variants.{Fine, Refused}
+use Rattle.bits.specs.Refusals.{Answer, refused}
+use Rattle.bits.specs.Arguments.{firstRefusal, exactOf, binaryOf}
+use Rattle.bits.specs.declared.arguments.Arguments.{Arguments}
+use Rattle.bits.specs.declared.arguments.Arguments.the-variants.{Passed, Refused}
 use Rattle.bits.specs.declared.Refusal.the-variants as refusal
 use Rattle.trellis.specs.Search.{Ambiguous}
 use Rattle.trellis.specs.Words.{OfLength}
 use Rattle.trellis.proofs.OneOutcome.{is-ambiguous, one-nearest}
-use Rattle.facch.specs.Decoding.{Content, sound, Finished, Settled, Answered, Decoding}
-use Rattle.facch.specs.Received.{observedCount, erasableOf, lentErased, lentDecode}
+use Rattle.facch.specs.Decoding.{Content, wordValid, Finished, Settled, Answered, Decoding}
+use Rattle.facch.specs.Decoding.{erasedArguments, decodeArguments}
+use Rattle.bits.specs.Observed.{observedCount, erasableOf}
 use Rattle.facch.specs.Search.{weight}
-use Rattle.facch.proofs.Receiving.{binary-erasable}
+use Rattle.bits.proofs.Erased.{binary-erasable}
 
 one-finished : {w : List Bool} {corrected observed dvcc : ℕ} {a b : Answer Content} → Finished w corrected observed dvcc a → Finished w corrected observed dvcc b → a ≡ b
-one-finished {w} {corrected} {observed} {dvcc} {a} {b} f g = go (sound w dvcc) refl
+one-finished {w} {corrected} {observed} {dvcc} {a} {b} f g = go (wordValid w dvcc) refl
   where
-    go : (t : Bool) → sound w dvcc ≡ t → a ≡ b
+    go : (t : Bool) → wordValid w dvcc ≡ t → a ≡ b
     go true t = f .taken t ∙ sym (g .taken t)
-    go false t = f .spoilt t ∙ sym (g .spoilt t)
+    go false t = f .failed t ∙ sym (g .failed t)
 
 module _ {received : List ℕ} {dvcc : ℕ} {a b : Answer Content} where
   one-settled : (Ambiguous (OfLength 65) (weight received) → ⊥) → Settled received dvcc a → Settled received dvcc b → a ≡ b
@@ -42,14 +44,14 @@ module _ {received : List ℕ} {dvcc : ℕ} {a b : Answer Content} where
           let none : Ambiguous (OfLength 65) (weight received) → ⊥ = λ m. n (p .unclear (omega arith) m) in
           one-settled none (p .settled (omega arith) none) (q .settled (omega arith) none)
 
-pub one-answer : (lent : Lent) {received : List ℕ} {dvcc : ℕ} {a b : Answer Content} → Decoding lent received dvcc a → Decoding lent received dvcc b → a ≡ b
-one-answer Fine p q = one-answered (p .answered refl) (q .answered refl)
+pub one-answer : (arguments : Arguments) {received : List ℕ} {dvcc : ℕ} {a b : Answer Content} → Decoding arguments received dvcc a → Decoding arguments received dvcc b → a ≡ b
+one-answer Passed p q = one-answered (p .answered refl) (q .answered refl)
 one-answer (Refused why) p q = p .declined why refl ∙ sym (q .declined why refl)
 
 -- `decode` answers bits as `decode_erased` does
-pub same-calls : {coded : List ℕ} {dvcc : ℕ} {a b : Answer Content} → allBinary coded ≡ true → Decoding (lentDecode coded) coded dvcc a → Decoding (lentErased coded) coded dvcc b → a ≡ b
+pub same-calls : {coded : List ℕ} {dvcc : ℕ} {a b : Answer Content} → allBinary coded ≡ true → Decoding (decodeArguments coded) coded dvcc a → Decoding (erasedArguments coded) coded dvcc b → a ≡ b
 same-calls {coded} {dvcc} {a} e p q =
-    let binary : binaryOf coded ≡ Fine = ap (λ (t : Bool). cond t Fine (Refused refusal.Symbol)) e in
-    let erasable : erasableOf coded ≡ Fine = ap (λ (t : Bool). cond t Fine (Refused refusal.Symbol)) (binary-erasable coded e) in
-    let same : lentDecode coded ≡ lentErased coded = ap (firstOf (exactOf 260 (length coded))) (binary ∙ sym erasable) in
-    one-answer (lentErased coded) (subst (λ (l : Lent). Decoding l coded dvcc a) same p) q
+    let binary : binaryOf coded ≡ Passed = ap (λ (t : Bool). cond t Passed (Refused refusal.Symbol)) e in
+    let erasable : erasableOf coded ≡ Passed = ap (λ (t : Bool). cond t Passed (Refused refusal.Symbol)) (binary-erasable coded e) in
+    let same : decodeArguments coded ≡ erasedArguments coded = ap (firstRefusal (exactOf 260 (length coded))) (binary ∙ sym erasable) in
+    one-answer (erasedArguments coded) (subst (λ (l : Arguments). Decoding l coded dvcc a) same p) q

@@ -9,9 +9,10 @@ use lib.ListN.{length, take, drop, length-append, length-drop, length-map, repli
 use lib.Seq.{length-take-le}
 use Rattle.bits.specs.Bits.{byte, bytes, differ, tally, disagreements}
 use Rattle.bits.specs.Numbers.{packed, unpacked}
-use Rattle.bits.specs.Refusals.{Answer, accepted, firstOf}
-use Rattle.bits.specs.declared.Lent.{Lent}
-use Rattle.bits.specs.declared.Lent.the-variants.{Fine}
+use Rattle.bits.specs.Refusals.{Answer, accepted}
+use Rattle.bits.specs.Arguments.{firstRefusal}
+use Rattle.bits.specs.declared.arguments.Arguments.{Arguments}
+use Rattle.bits.specs.declared.arguments.Arguments.the-variants.{Passed}
 use Rattle.bits.proofs.Binary.{binary-bytes}
 use Rattle.bits.proofs.Tally.{disagreements-self, disagreements-none}
 use Rattle.coding.specs.Codes.{tapped, coded, facch}
@@ -19,16 +20,16 @@ use Rattle.checksums.specs.Checksums.{checksumOf, divided, added}
 use Rattle.coding.proofs.Coded.{coded-length}
 use Rattle.trellis.specs.Search.{Nearest, Ambiguous}
 use Rattle.trellis.specs.Words.{OfLength}
-use Rattle.tailbiting.specs.TailBiting.{erasedDiffer}
+use Rattle.bits.specs.Observed.{erasedDiffer, observedOne, observedCount}
 use Rattle.bits.specs.declared.Wrote.{Wrote}
 use Rattle.words.specs.Words.{madeOf}
-use Rattle.words.proofs.Made.{made-length, made-sound, made-message}
+use Rattle.words.proofs.Made.{made-length, made-valid, made-message}
 use Rattle.facch.specs.Words.{wordOf, tailBiting, Encoding}
-use Rattle.facch.specs.Decoding.{Content, contentOf, sound, Settled, Decoding}
-use Rattle.facch.specs.Received.{seen, observedCount, lentErased, lentDecode}
+use Rattle.facch.specs.Decoding.{Content, contentOf, wordValid, Settled, Decoding}
+use Rattle.facch.specs.Decoding.{erasedArguments, decodeArguments}
 use Rattle.facch.specs.Search.{weight}
-use Rattle.bits.proofs.Refusing.{exact-fine, binary-fine, below-fine}
-use Rattle.facch.proofs.Receiving.{binary-erasable, fine-bytes}
+use Rattle.bits.proofs.Refusing.{exact-passed, binary-passed, below-passed, erasable-passed}
+use Rattle.bits.proofs.Erased.{binary-erasable}
 use Rattle.facch_laws.proofs.Determined.{whole-determines}
 
 -- ---- a word that agrees with what was observed, where no other does
@@ -40,12 +41,12 @@ module _ (received : List ℕ) (w : List Bool) (size : length w ≡ 65) (agrees 
   clear : Ambiguous (OfLength 65) (weight received) → ⊥
   clear a = a .distinct (nearest-is (a .one) (a .one-nearest) ∙ sym (nearest-is (a .other) (a .other-nearest)))
 
-  pub agreed : {lent : Lent} {dvcc : ℕ} {answer : Answer Content} → Decoding lent received dvcc answer → lent ≡ Fine → 65 ≤ observedCount received → sound w dvcc ≡ true
+  pub agreed : {arguments : Arguments} {dvcc : ℕ} {answer : Answer Content} → Decoding arguments received dvcc answer → arguments ≡ Passed → 65 ≤ observedCount received → wordValid w dvcc ≡ true
       → answer ≡ accepted (contentOf w 0 (observedCount received))
-  agreed {lent} {dvcc} {answer} d fine many right =
-      let s : Settled received dvcc answer = d .answered fine .settled many clear in
+  agreed {arguments} {dvcc} {answer} d passed many right =
+      let s : Settled received dvcc answer = d .answered passed .settled many clear in
       let e : s .word ≡ w = nearest-is (s .word) (s .nearest) in
-      s .finished .taken (ap (λ (u : List Bool). sound u dvcc) e ∙ right)
+      s .finished .taken (ap (λ (u : List Bool). wordValid u dvcc) e ∙ right)
       ∙ ap₂ (λ (u : List Bool) (n : ℕ). accepted (contentOf u n (observedCount received))) e (ap (weight received) e ∙ agrees)
 
 -- ---- bits that are all observed
@@ -63,7 +64,7 @@ tally-bytes (a ∷ u) [] = refl
 tally-bytes (a ∷ u) (b ∷ w) = ap₂ (λ (m n : ℕ). m + n) (erased-byte a b) (tally-bytes u w)
 
 all-observed : (w : List Bool) → observedCount (bytes w) ≡ length w
-unfolding observedCount seen
+unfolding observedCount observedOne
 all-observed [] = refl
 all-observed (false ∷ w) = let i : observedCount (bytes w) ≡ length w = all-observed w in omega arith
 all-observed (true ∷ w) = let i : observedCount (bytes w) ≡ length w = all-observed w in omega arith
@@ -89,19 +90,19 @@ only-own w u hw hu e =
     whole-determines u w hu hw
     (disagreements-none (tailBiting u) (tailBiting w) (biting-length u hu ∙ sym (biting-length w hw)) (sym (tally-bytes (tailBiting u) (tailBiting w)) ∙ e))
 
-pub fine-decode : (w : List Bool) → length w ≡ 65 → lentDecode (bytes (tailBiting w)) ≡ Fine
-fine-decode w h = ap₂ firstOf (exact-fine 260 (length (bytes (tailBiting w))) (coded-size w h)) (binary-fine (bytes (tailBiting w)) (binary-bytes (tailBiting w)))
+pub passed-decode : (w : List Bool) → length w ≡ 65 → decodeArguments (bytes (tailBiting w)) ≡ Passed
+passed-decode w h = ap₂ firstRefusal (exact-passed 260 (length (bytes (tailBiting w))) (coded-size w h)) (binary-passed (bytes (tailBiting w)) (binary-bytes (tailBiting w)))
 
-pub fine-erased : (w : List Bool) → length w ≡ 65 → lentErased (bytes (tailBiting w)) ≡ Fine
-fine-erased w h = fine-bytes (bytes (tailBiting w)) (coded-size w h) (binary-erasable (bytes (tailBiting w)) (binary-bytes (tailBiting w)))
+pub passed-erased : (w : List Bool) → length w ≡ 65 → erasedArguments (bytes (tailBiting w)) ≡ Passed
+passed-erased w h = erasable-passed 260 (bytes (tailBiting w)) (coded-size w h) (binary-erasable (bytes (tailBiting w)) (binary-bytes (tailBiting w)))
 
 -- ---- the word of a message
 module _ (continuation : Bool) (message dvcc : ℕ) where
   pub word-length : length (wordOf continuation message dvcc) ≡ 65
   word-length = made-length (continuation ∷ []) message dvcc
 
-  pub sound-own : sound (wordOf continuation message dvcc) dvcc ≡ true
-  sound-own = made-sound (continuation ∷ []) message dvcc refl
+  pub valid-own : wordValid (wordOf continuation message dvcc) dvcc ≡ true
+  valid-own = made-valid (continuation ∷ []) message dvcc refl
 
   pub content-own : (observed : ℕ) → message < 2 ^ 48
       → contentOf (wordOf continuation message dvcc) 0 observed ≡ record { continuation = continuation; message = message; corrected = 0; observed = observed }
@@ -109,40 +110,40 @@ module _ (continuation : Bool) (message dvcc : ℕ) where
   content-own observed h = ap (λ (n : ℕ). record { continuation = continuation; message = n; corrected = 0; observed = observed }) (made-message (continuation ∷ []) message dvcc refl h)
 
   -- a word's own coded bits, taken by either call
-  own-bits : (lent : Lent) → lent ≡ Fine → message < 2 ^ 48 → {answer : Answer Content} → Decoding lent (bytes (tailBiting (wordOf continuation message dvcc))) dvcc answer
+  own-bits : (arguments : Arguments) → arguments ≡ Passed → message < 2 ^ 48 → {answer : Answer Content} → Decoding arguments (bytes (tailBiting (wordOf continuation message dvcc))) dvcc answer
       → answer ≡ accepted (record { continuation = continuation; message = message; corrected = 0; observed = 260 })
-  own-bits lent fine h d =
+  own-bits arguments passed h d =
       let w : List Bool = wordOf continuation message dvcc in
       let size : length w ≡ 65 = word-length in
       let n : observedCount (bytes (tailBiting w)) ≡ 260 = all-observed (tailBiting w) ∙ biting-length w size in
-      agreed (bytes (tailBiting w)) w size (own-weight w size) (λ u hu e. only-own w u size hu e) d fine (omega (arith, n)) sound-own
+      agreed (bytes (tailBiting w)) w size (own-weight w size) (λ u hu e. only-own w u size hu e) d passed (omega (arith, n)) valid-own
       ∙ ap accepted (ap (λ (k : ℕ). contentOf w 0 k) n ∙ content-own 260 h)
 
   module _ (h : message < 2 ^ 48) {coded₀ coded : List ℕ} (r : Wrote) (room : length coded₀ ≡ 260) (e : Encoding continuation message dvcc coded₀ coded r) where
     pub written : coded ≡ bytes (tailBiting (wordOf continuation message dvcc))
-    written = e .done (ap₂ firstOf (exact-fine 260 (length coded₀) room) (below-fine (2 ^ 48) message h)) .1
+    written = e .done (ap₂ firstRefusal (exact-passed 260 (length coded₀) room) (below-passed (2 ^ 48) message h)) .1
 
     -- what `encode` writes, `decode` reads
-    pub round-trip : {answer : Answer Content} → Decoding (lentDecode coded) coded dvcc answer
+    pub round-trip : {answer : Answer Content} → Decoding (decodeArguments coded) coded dvcc answer
         → answer ≡ accepted (record { continuation = continuation; message = message; corrected = 0; observed = 260 })
     round-trip {answer} d =
-        own-bits (lentDecode (bytes (tailBiting (wordOf continuation message dvcc)))) (fine-decode (wordOf continuation message dvcc) word-length) h
-        (subst (λ (l : List ℕ). Decoding (lentDecode l) l dvcc answer) written d)
+        own-bits (decodeArguments (bytes (tailBiting (wordOf continuation message dvcc)))) (passed-decode (wordOf continuation message dvcc) word-length) h
+        (subst (λ (l : List ℕ). Decoding (decodeArguments l) l dvcc answer) written d)
 
     -- and so does `decode_erased`
-    pub round-trip-erased : {answer : Answer Content} → Decoding (lentErased coded) coded dvcc answer
+    pub round-trip-erased : {answer : Answer Content} → Decoding (erasedArguments coded) coded dvcc answer
         → answer ≡ accepted (record { continuation = continuation; message = message; corrected = 0; observed = 260 })
     round-trip-erased {answer} d =
-        own-bits (lentErased (bytes (tailBiting (wordOf continuation message dvcc)))) (fine-erased (wordOf continuation message dvcc) word-length) h
-        (subst (λ (l : List ℕ). Decoding (lentErased l) l dvcc answer) written d)
+        own-bits (erasedArguments (bytes (tailBiting (wordOf continuation message dvcc)))) (passed-erased (wordOf continuation message dvcc) word-length) h
+        (subst (λ (l : List ℕ). Decoding (erasedArguments l) l dvcc answer) written d)
 
 -- ---- document 01: 260 zeros under the colour code 0 are a zero message
 zeros : bytes (tailBiting (wordOf false 0 0)) ≡ replicate 260 0
 unfolding tailBiting coded tapped madeOf checksumOf divided added packed unpacked
 zeros = refl
 
-pub zero-message : {answer : Answer Content} → Decoding (lentDecode (replicate 260 0)) (replicate 260 0) 0 answer
+pub zero-message : {answer : Answer Content} → Decoding (decodeArguments (replicate 260 0)) (replicate 260 0) 0 answer
     → answer ≡ accepted (record { continuation = false; message = 0; corrected = 0; observed = 260 })
 zero-message {answer} d =
-    own-bits false 0 0 (lentDecode (bytes (tailBiting (wordOf false 0 0)))) (fine-decode (wordOf false 0 0) (word-length false 0 0)) (omega arith)
-    (subst (λ (l : List ℕ). Decoding (lentDecode l) l 0 answer) (sym zeros) d)
+    own-bits false 0 0 (decodeArguments (bytes (tailBiting (wordOf false 0 0)))) (passed-decode (wordOf false 0 0) (word-length false 0 0)) (omega arith)
+    (subst (λ (l : List ℕ). Decoding (decodeArguments l) l 0 answer) (sym zeros) d)

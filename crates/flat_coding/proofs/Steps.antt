@@ -15,29 +15,29 @@ use Rattle.bits.proofs.Refusing.{never-both}
 use Rattle.coding.specs.Codes.{facch}
 use Rattle.coding.specs.Registers.{Stepped, memoryHigh}
 use Rattle.flat_coding.specs.declared.Step.{Step}
-use Rattle.bits.specs.declared.Lent.{Lent}
-use Rattle.bits.specs.declared.Lent.the-variants.{Fine, Refused}
-use Rattle.flat_coding.specs.Flat.{noStep, lentStep, Taken, StepAnswer}
+use Rattle.bits.specs.declared.arguments.Arguments.{Arguments}
+use Rattle.bits.specs.declared.arguments.Arguments.the-variants.{Passed, Refused}
+use Rattle.flat_coding.specs.Flat.{noStep, stepArguments, Taken, StepAnswer}
 
 pub refused-step : (why : Refusal) (n : ℕ) → n ≡ numberOf why → record { refusal = n; next = 0; output = replicate 4 0 } ≡ noStep why
 refused-step why n e = ap (λ (k : ℕ). record { refusal = k; next = 0; output = replicate 4 0 }) e
 
--- ---- Fine says that every test was passed
-passed : (t : Bool) (why : Refusal) (x : Lent) → cond t (Refused why) x ≡ Fine → (t ≡ false) × (x ≡ Fine)
+-- ---- Passed says that every test was passed
+passed : (t : Bool) (why : Refusal) (x : Arguments) → cond t (Refused why) x ≡ Passed → (t ≡ false) × (x ≡ Passed)
 passed true why x e = never-both e refl
 passed false why x e = (refl, e)
 
-pub fine-step : (state input : ℕ) → lentStep state input ≡ Fine → (state < 32) × (input < 2)
-unfolding lentStep
-fine-step state input e =
+pub passed-step : (state input : ℕ) → stepArguments state input ≡ Passed → (state < 32) × (input < 2)
+unfolding stepArguments
+passed-step state input e =
     let a = passed (ltb 31 state) State _ e in
-    let b = passed (ltb 1 input) Symbol Fine (a .1) in
+    let b = passed (ltb 1 input) Symbol Passed (a .1) in
     let h : state ≤ 31 = ltb-false 31 state (a .0) in
     let k : input ≤ 1 = ltb-false 1 input (b .0) in
     (omega arith, omega arith)
 
 -- ---- the answers
-module _ {code : List (List Bool)} {memory : ℕ → List Bool} {state input : ℕ} {l : Lent} (told : l ≡ lentStep state input) where
+module _ {code : List (List Bool)} {memory : ℕ → List Bool} {state input : ℕ} {l : Arguments} (told : l ≡ stepArguments state input) where
   pub by-refusal : {r : Step} (why : Refusal) → l ≡ Refused why → r ≡ noStep why → StepAnswer code memory state input r
   by-refusal why e er =
       record {
@@ -45,7 +45,7 @@ module _ {code : List (List Bool)} {memory : ℕ → List Bool} {state input : �
         taken = λ ef. never-both ef (sym told ∙ e);
       }
 
-  pub by-step : {r : Step} → l ≡ Fine → Taken code memory state input r → StepAnswer code memory state input r
+  pub by-step : {r : Step} → l ≡ Passed → Taken code memory state input r → StepAnswer code memory state input r
   by-step e t =
       record {
         no-step = λ y ey. never-both e (told ∙ ey);
@@ -54,17 +54,17 @@ module _ {code : List (List Bool)} {memory : ℕ → List Bool} {state input : �
 
 -- ---- the ways out of `step_refusal`
 module _ (state input : ℕ) where
-  pub no-state : 31 < state → Refused State ≡ lentStep state input
-  unfolding lentStep
+  pub no-state : 31 < state → Refused State ≡ stepArguments state input
+  unfolding stepArguments
   no-state h = rw (lt-ltb 31 state h)
 
-  pub no-symbol : state ≤ 31 → 1 < input → Refused Symbol ≡ lentStep state input
-  unfolding lentStep
+  pub no-symbol : state ≤ 31 → 1 < input → Refused Symbol ≡ stepArguments state input
+  unfolding stepArguments
   no-symbol h k = rw (le-ltb 31 state h, lt-ltb 1 input k)
 
-  pub both-fine : state ≤ 31 → input ≤ 1 → Fine ≡ lentStep state input
-  unfolding lentStep
-  both-fine h k = rw (le-ltb 31 state h, le-ltb 1 input k)
+  pub both-passed : state ≤ 31 → input ≤ 1 → Passed ≡ stepArguments state input
+  unfolding stepArguments
+  both-passed h k = rw (le-ltb 31 state h, le-ltb 1 input k)
 
 -- a step of a code with two generators
 pub two-outputs : (p q : List Bool) {memory : ℕ → List Bool} {state input next : ℕ} {o : List ℕ} → Stepped (p ∷ q ∷ []) memory state (bit input) next o

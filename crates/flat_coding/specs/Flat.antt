@@ -14,8 +14,8 @@ use Rattle.checksums.specs.declared.CrcMode.{CrcMode}
 use Rattle.checksums.specs.declared.CrcMode.the-variants.{Broadcast, Addressed}
 use Rattle.flat_coding.specs.declared.Step.{Step}
 use Rattle.flat_coding.specs.declared.Checksum.{Checksum}
-use Rattle.bits.specs.declared.Lent.{Lent}
-use Rattle.bits.specs.declared.Lent.the-variants.{Fine, Refused}
+use Rattle.bits.specs.declared.arguments.Arguments.{Arguments}
+use Rattle.bits.specs.declared.arguments.Arguments.the-variants.{Passed, Refused}
 
 -- ---- one step
 abbrev pub noStep : Refusal → Step
@@ -28,13 +28,13 @@ pub record Taken (code : List (List Bool)) (memory : ℕ → List Bool) (state i
   pub rest : drop (length code) (r .output) ≡ replicate (4 - length code) 0
 
 -- State where the state is above 31, then Symbol where the input is no bit
-unfoldable pub lentStep : ℕ → ℕ → Lent
-lentStep state input = cond (ltb 31 state) (Refused State) (cond (ltb 1 input) (Refused Symbol) Fine)
+unfoldable pub stepArguments : ℕ → ℕ → Arguments
+stepArguments state input = cond (ltb 31 state) (Refused State) (cond (ltb 1 input) (Refused Symbol) Passed)
 
 -- the answer of a step
 pub record StepAnswer (code : List (List Bool)) (memory : ℕ → List Bool) (state input : ℕ) (r : Step) : Type 0 where
-  pub no-step : (why : Refusal) → lentStep state input ≡ Refused why → r ≡ noStep why
-  pub taken : lentStep state input ≡ Fine → Taken code memory state input r
+  pub no-step : (why : Refusal) → stepArguments state input ≡ Refused why → r ≡ noStep why
+  pub taken : stepArguments state input ≡ Passed → Taken code memory state input r
 
 -- ---- a checksum, which is never pending or rejected
 abbrev pub flatChecksum : Answer ℕ → Checksum

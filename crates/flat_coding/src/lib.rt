@@ -2,8 +2,8 @@
 pub mod calls;
 pub mod search;
 
-use bits::Lent;
 use bits::Refusal;
+use bits::arguments::Arguments;
 use bits::refusals::number;
 use checksums::Checked;
 use checksums::CrcMode;
@@ -12,7 +12,7 @@ ghost use Rattle.bits.specs.Bits.{bits};
 ghost use Rattle.checksums.specs.Checksums.{answerOf, checksum7Of, checksumOf, ofBits};
 ghost use Rattle.coding.specs.Codes.{acelp, dcch, facch};
 ghost use Rattle.coding.specs.Registers.{memoryHigh, memoryLow};
-ghost use Rattle.flat_coding.specs.Flat.{StepAnswer, flatChecksum, lentStep, modeOf, noStep};
+ghost use Rattle.flat_coding.specs.Flat.{StepAnswer, flatChecksum, stepArguments, modeOf, noStep};
 
 #[repr(C)]
 pub struct Step {
@@ -28,16 +28,16 @@ pub struct Checksum {
 }
 
 // Whether there is such a state and such an input.
-fn step_refusal(state: u8, input: u8) -> Lent
-    ensures { λ r. ⌜ r ≡ lentStep state input ⌝ }
+fn step_refusal(state: u8, input: u8) -> Arguments
+    ensures { λ r. ⌜ r ≡ stepArguments state input ⌝ }
 {
     if 31 < state {
-        return Lent::Refused(Refusal::State);
+        return Arguments::Refused(Refusal::State);
     }
     if 1 < input {
-        return Lent::Refused(Refusal::Symbol);
+        return Arguments::Refused(Refusal::Symbol);
     }
-    Lent::Fine
+    Arguments::Passed
 }
 
 fn no_step(why: Refusal) -> Step
@@ -55,7 +55,7 @@ pub fn dcch_transition(state: u8, input: u8) -> Step
     ensures { λ r. ⌜ StepAnswer dcch memoryHigh state input r ⌝ }
 {
     let ready = step_refusal(state, input);
-    if let Lent::Refused(why) = ready {
+    if let Arguments::Refused(why) = ready {
         return no_step(why);
     }
     let step = coding::dcch::transition(state, input);
@@ -72,7 +72,7 @@ pub fn facch_transition(state: u8, input: u8) -> Step
     ensures { λ r. ⌜ StepAnswer facch memoryHigh state input r ⌝ }
 {
     let ready = step_refusal(state, input);
-    if let Lent::Refused(why) = ready {
+    if let Arguments::Refused(why) = ready {
         return no_step(why);
     }
     let step = coding::facch::transition(state, input);
@@ -89,7 +89,7 @@ pub fn acelp_transition(state: u8, input: u8) -> Step
     ensures { λ r. ⌜ StepAnswer acelp memoryLow state input r ⌝ }
 {
     let ready = step_refusal(state, input);
-    if let Lent::Refused(why) = ready {
+    if let Arguments::Refused(why) = ready {
         return no_step(why);
     }
     let step = coding::acelp::transition(state, input);

@@ -1,19 +1,17 @@
 // Flat functions over `viterbi`: the bare searches. Each answers a number of document 01, or 0 with its result.
-use bits::Lent;
+use crate::calls::not_written;
 use bits::Refusal;
-use bits::exact;
-use bits::first;
-use bits::only_bits;
-use bits::refusals::actual;
-use bits::refusals::expected;
-use bits::refusals::number;
+use bits::arguments::Arguments;
+use bits::arguments::exact;
+use bits::arguments::first_refusal;
+use bits::arguments::only_bits;
 ghost use mathlib.Core.Path.{_≡_};
 ghost use lib.ListN.{length};
 ghost use Rattle.bits.specs.Bits.{bits};
 ghost use Rattle.trellis.specs.Search.{Found, FoundFirst};
 ghost use Rattle.trellis.specs.Words.{OfLength, Terminated};
 ghost use Rattle.viterbi.specs.Hard.{freeWeight, weight};
-ghost use Rattle.flat_coding.specs.FlatSearch.{SearchAnswer, lentBlock, lentPairs, noSearch};
+ghost use Rattle.flat_coding.specs.FlatSearch.{SearchAnswer, searchArguments, pairArguments, noSearch};
 
 // expected and actual are those of a refusal for length.
 #[repr(C)]
@@ -26,17 +24,20 @@ pub struct Search {
 }
 
 // Whether a received block can be searched into a word of so many bits.
-fn search_refusal(coded: &[u8], steps: usize) -> Lent
-    ensures { λ r. ⌜ r ≡ lentBlock (now (coded .entry)) steps ⌝ }
+fn search_refusal(coded: &[u8], steps: usize) -> Arguments
+    ensures { λ r. ⌜ r ≡ searchArguments (now (coded .entry)) steps ⌝ }
 {
     let length = coded.len();
     let block = pairs(length);
-    first(block, first(exact(length / 2, steps), only_bits(coded)))
+    first_refusal(
+        block,
+        first_refusal(exact(length / 2, steps), only_bits(coded)),
+    )
 }
 
 // Refused where a length is no number of pairs from 5 to 130.
-fn pairs(length: usize) -> Lent
-    ensures { λ r. ⌜ r ≡ lentPairs length ⌝ }
+fn pairs(length: usize) -> Arguments
+    ensures { λ r. ⌜ r ≡ pairArguments length ⌝ }
 {
     if length < 10 {
         return exact(260, length);
@@ -47,16 +48,17 @@ fn pairs(length: usize) -> Lent
     if length % 2 == 1 {
         return exact(260, length);
     }
-    Lent::Fine
+    Arguments::Passed
 }
 
 fn no_search(why: Refusal) -> Search
     ensures { λ r. ⌜ r ≡ noSearch why ⌝ }
 {
+    let numbers = not_written(why);
     Search {
-        refusal: number(why),
-        expected: expected(why),
-        actual: actual(why),
+        refusal: numbers.refusal,
+        expected: numbers.expected,
+        actual: numbers.actual,
         metric: 0,
         tie: false,
     }
@@ -67,7 +69,7 @@ pub fn terminated(coded: &[u8], word: &mut [u8]) -> Search
     ensures { λ r. ⌜ SearchAnswer (FoundFirst (Terminated (length (now (word .entry)))) (weight (bits (now (coded .entry))))) (now (coded .entry)) (now (word .entry)) (now (word .exit)) r ⌝ }
 {
     let ready = search_refusal(coded, word.len());
-    if let Lent::Refused(why) = ready {
+    if let Arguments::Refused(why) = ready {
         return no_search(why);
     }
     let found = viterbi::terminated(coded, word);
@@ -85,7 +87,7 @@ pub fn free(coded: &[u8], word: &mut [u8]) -> Search
     ensures { λ r. ⌜ SearchAnswer (Found (OfLength (length (now (word .entry)))) (freeWeight (bits (now (coded .entry))))) (now (coded .entry)) (now (word .entry)) (now (word .exit)) r ⌝ }
 {
     let ready = search_refusal(coded, word.len());
-    if let Lent::Refused(why) = ready {
+    if let Arguments::Refused(why) = ready {
         return no_search(why);
     }
     let found = viterbi::free(coded, word);

@@ -3,8 +3,6 @@ use mathlib.Core.Path.{_≡_}
 use Prim.Native.Nat.{ℕ}
 use Rattle.bits.specs.Refusals.{Answer, accepted, pending, rejected, refused, numberOf, expectedOf, actualOf}
 use Rattle.bits.specs.declared.Refusal.{Refusal}
-use Rattle.bits.specs.declared.Wrote.{Wrote}
-use Rattle.bits.specs.Calls.{wroteAnswer}
 use Rattle.dcch.specs.declared.block.Decoded.{Decoded}
 use Rattle.dcch.specs.Blocks.{decodeAnswer}
 use Rattle.flat_dcch.specs.declared.Block.{Block}
@@ -19,18 +17,7 @@ flatCorrected pending = record { refusal = 0; expected = 0; actual = 0; correcte
 flatCorrected (rejected why) = noBlock why
 flatCorrected (refused why) = noBlock why
 
-abbrev pub flatDone : Answer Unit → Block
-flatDone (accepted u) = record { refusal = 0; expected = 0; actual = 0; corrected = 0 }
-flatDone pending = record { refusal = 0; expected = 0; actual = 0; corrected = 0 }
-flatDone (rejected why) = noBlock why
-flatDone (refused why) = noBlock why
-
 -- the answer of a call of `dcch`, of which Call says what it means, made flat
-pub record FlatEncoded (Call : Wrote → Type 0) (r : Block) : Type 0 where
-  pub answer : Wrote
-  pub holds : Call answer
-  pub flat : r ≡ flatDone (wroteAnswer answer)
-
 pub record FlatDecoded (Call : Decoded → Type 0) (r : Block) : Type 0 where
   pub answer : Decoded
   pub holds : Call answer

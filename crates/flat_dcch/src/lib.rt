@@ -1,16 +1,16 @@
 // Flat functions over `dcch`: one for each format, since C has no enum of ours. Each answers a number of document 01, or 0 with its result.
-use bits::Wrote;
-use bits::refusals::actual;
-use bits::refusals::expected;
-use bits::refusals::number;
+use bits::Refusal;
 use dcch::BlockFormat;
 use dcch::Decoded;
+use flat_coding::calls::Written;
+use flat_coding::calls::flat_wrote;
+use flat_coding::calls::not_written;
 use flat_coding::mode_of;
 ghost use mathlib.Core.Path.{_≡_};
 ghost use Rattle.dcch.specs.Blocks.{Decoding, Encoding, decodeAnswer};
-ghost use Rattle.bits.specs.Calls.{wroteAnswer};
 ghost use Rattle.dcch.specs.SoftBlocks.{SoftDecoding};
-ghost use Rattle.flat_dcch.specs.Blocks.{FlatDecoded, FlatEncoded, flatDone, flatCorrected};
+ghost use Rattle.flat_dcch.specs.Blocks.{FlatDecoded, flatCorrected, noBlock};
+ghost use Rattle.flat_coding.specs.Calls.{FlatWrote};
 ghost use Rattle.flat_coding.specs.Flat.{modeOf};
 
 // corrected is that of an accepted decoding; expected and actual are those of a refusal for length.
@@ -22,22 +22,15 @@ pub struct Block {
     pub corrected: u16,
 }
 
-fn flat_encoded(answer: Wrote) -> Block
-    ensures { λ r. ⌜ r ≡ flatDone (wroteAnswer answer) ⌝ }
+fn no_block(why: Refusal) -> Block
+    ensures { λ r. ⌜ r ≡ noBlock why ⌝ }
 {
-    match answer {
-        Wrote::Done => Block {
-            refusal: 0,
-            expected: 0,
-            actual: 0,
-            corrected: 0,
-        },
-        Wrote::Refused(why) => Block {
-            refusal: number(why),
-            expected: expected(why),
-            actual: actual(why),
-            corrected: 0,
-        },
+    let numbers = not_written(why);
+    Block {
+        refusal: numbers.refusal,
+        expected: numbers.expected,
+        actual: numbers.actual,
+        corrected: 0,
     }
 }
 
@@ -51,12 +44,7 @@ fn flat_decoded(answer: Decoded) -> Block
             actual: 0,
             corrected,
         },
-        Decoded::Refused(why) => Block {
-            refusal: number(why),
-            expected: expected(why),
-            actual: actual(why),
-            corrected: 0,
-        },
+        Decoded::Refused(why) => no_block(why),
     }
 }
 
@@ -66,15 +54,15 @@ fn encode(
     dvcc: u8,
     broadcast: bool,
     block: &mut [u8],
-) -> Block
-    ensures { λ r. ⌜ FlatEncoded (Encoding format (now (information .entry)) dvcc (modeOf broadcast) (now (block .entry)) (now (block .exit))) r ⌝ }
+) -> Written
+    ensures { λ r. ⌜ FlatWrote (Encoding format (now (information .entry)) dvcc (modeOf broadcast) (now (block .entry)) (now (block .exit))) r ⌝ }
 {
     let mode = mode_of(broadcast);
-    flat_encoded(dcch::encode(format, information, dvcc, mode, block))
+    flat_wrote(dcch::encode(format, information, dvcc, mode, block))
 }
 
-pub fn encode_forward(information: &[u8], dvcc: u8, broadcast: bool, block: &mut [u8]) -> Block
-    ensures { λ r. ⌜ FlatEncoded (Encoding BlockFormat.Forward (now (information .entry)) dvcc (modeOf broadcast) (now (block .entry)) (now (block .exit))) r ⌝ }
+pub fn encode_forward(information: &[u8], dvcc: u8, broadcast: bool, block: &mut [u8]) -> Written
+    ensures { λ r. ⌜ FlatWrote (Encoding BlockFormat.Forward (now (information .entry)) dvcc (modeOf broadcast) (now (block .entry)) (now (block .exit))) r ⌝ }
 {
     encode(BlockFormat::Forward, information, dvcc, broadcast, block)
 }
@@ -84,8 +72,8 @@ pub fn encode_reverse_normal(
     dvcc: u8,
     broadcast: bool,
     block: &mut [u8],
-) -> Block
-    ensures { λ r. ⌜ FlatEncoded (Encoding BlockFormat.ReverseNormal (now (information .entry)) dvcc (modeOf broadcast) (now (block .entry)) (now (block .exit))) r ⌝ }
+) -> Written
+    ensures { λ r. ⌜ FlatWrote (Encoding BlockFormat.ReverseNormal (now (information .entry)) dvcc (modeOf broadcast) (now (block .entry)) (now (block .exit))) r ⌝ }
 {
     encode(
         BlockFormat::ReverseNormal,
@@ -101,8 +89,8 @@ pub fn encode_reverse_abbreviated(
     dvcc: u8,
     broadcast: bool,
     block: &mut [u8],
-) -> Block
-    ensures { λ r. ⌜ FlatEncoded (Encoding BlockFormat.ReverseAbbreviated (now (information .entry)) dvcc (modeOf broadcast) (now (block .entry)) (now (block .exit))) r ⌝ }
+) -> Written
+    ensures { λ r. ⌜ FlatWrote (Encoding BlockFormat.ReverseAbbreviated (now (information .entry)) dvcc (modeOf broadcast) (now (block .entry)) (now (block .exit))) r ⌝ }
 {
     encode(
         BlockFormat::ReverseAbbreviated,

@@ -1,15 +1,13 @@
 // Flat functions over `facch`: words and the slots that carry them. Each answers a number of document 01, or 0 with its result.
 use bits::Refusal;
-use bits::refusals::actual;
-use bits::refusals::expected;
-use bits::refusals::number;
 use facch::Decoded;
 use facch::WordHalf;
 use flat_coding::calls::Written;
 use flat_coding::calls::flat_wrote;
+use flat_coding::calls::not_written;
 ghost use mathlib.Core.Path.{_≡_};
 ghost use Rattle.facch.specs.Decoding.{Decoding, decodeAnswer};
-ghost use Rattle.facch.specs.Received.{lentDecode, lentErased};
+ghost use Rattle.facch.specs.Decoding.{decodeArguments, erasedArguments};
 ghost use Rattle.facch_interleaver.specs.Wire.{Deinterleaving, Interleaving, Observing};
 ghost use Rattle.facch.specs.Words.{Encoding};
 ghost use Rattle.facch_interleaver.specs.declared.WordHalf.the-variants.{End, Start};
@@ -61,10 +59,11 @@ pub struct Word {
 fn no_word(why: Refusal) -> Word
     ensures { λ r. ⌜ r ≡ noWord why ⌝ }
 {
+    let numbers = not_written(why);
     Word {
-        refusal: number(why),
-        expected: expected(why),
-        actual: actual(why),
+        refusal: numbers.refusal,
+        expected: numbers.expected,
+        actual: numbers.actual,
         continuation: false,
         message: 0,
         corrected: 0,
@@ -95,13 +94,13 @@ fn flat_decoded(answer: Decoded) -> Word
 }
 
 pub fn decode(coded: &[u8], dvcc: u8) -> Word
-    ensures { λ r. ⌜ FlatDecoded (Decoding (lentDecode (now (coded .entry))) (now (coded .entry)) dvcc) r ⌝ }
+    ensures { λ r. ⌜ FlatDecoded (Decoding (decodeArguments (now (coded .entry))) (now (coded .entry)) dvcc) r ⌝ }
 {
     flat_decoded(facch::decode(coded, dvcc))
 }
 
 pub fn decode_erased(coded: &[u8], dvcc: u8) -> Word
-    ensures { λ r. ⌜ FlatDecoded (Decoding (lentErased (now (coded .entry))) (now (coded .entry)) dvcc) r ⌝ }
+    ensures { λ r. ⌜ FlatDecoded (Decoding (erasedArguments (now (coded .entry))) (now (coded .entry)) dvcc) r ⌝ }
 {
     flat_decoded(facch::decode_erased(coded, dvcc))
 }

@@ -12,13 +12,9 @@ use Rattle.sacch_encoder.specs.declared.SacchEncoder.{SacchEncoder}
 use Rattle.sacch_decoder.specs.declared.SacchWord.{SacchWord}
 use Rattle.sacch_receiver.specs.Receiver.{Moved}
 use Rattle.sacch_receiver.specs.declared.SacchReceiver.{SacchReceiver}
-use Rattle.flat_sacch.specs.Flat.{flatField, flatFields, noWord, numberIn, flatAnswer, flatReceiver, flatMoved, receiverOf, lockOf, lockByte}
+use Rattle.flat_sacch.specs.Flat.{flatField, flatFields, numberIn, flatAnswer, flatReceiver, flatMoved, receiverOf, lockOf, lockByte}
 use Rattle.flat_sacch.specs.declared.receiver.Receiver.{Receiver}
 use Rattle.flat_sacch.specs.declared.receiver.Pushed.{Pushed}
-
-pub refused-word : (why : Refusal) (n e a : ℕ) → n ≡ numberOf why → e ≡ expectedOf why → a ≡ actualOf why
-    → record { refusal = n; expected = e; actual = a; continuation = false; message = 0; corrected = 0; ending = 0 } ≡ noWord why
-refused-word why n e a en ee ea = cc
 
 -- what an encoder's call made
 pub field-made : (s : Sent ℕ) (a : Answer Unit) (e : SacchEncoder) (x n : ℕ) → record { answer = a; encoder = e; made = x } ≡ s → n ≡ numberIn a

@@ -3,9 +3,8 @@ mod receiver;
 
 use bits::Refusal;
 use bits::Wrote;
-use bits::refusals::actual;
-use bits::refusals::expected;
 use bits::refusals::number;
+use flat_coding::calls::not_written;
 pub use receiver::Pushed;
 pub use receiver::Receiver;
 pub use receiver::discontinuity;
@@ -16,7 +15,7 @@ use sacch::Decoded;
 use sacch::SacchEncoder;
 ghost use mathlib.Core.Path.{_≡_};
 ghost use Rattle.bits.specs.Calls.{wroteAnswer};
-ghost use Rattle.sacch_decoder.specs.Decoding.{decodeAnswer, decoding, lentDecode};
+ghost use Rattle.sacch_decoder.specs.Decoding.{decodeAnswer, decoding, decodeArguments};
 ghost use Rattle.sacch_encoder.specs.Encoder.{encodeBitsOf, encodeWordOf, freshEncoder};
 ghost use Rattle.flat_sacch.specs.Flat.{flatField, flatFields, flatWord, noWord, numberIn};
 
@@ -98,10 +97,11 @@ pub fn encode_word(encoder: SacchEncoder, continuation: bool, message: u64, dvcc
 fn no_word(why: Refusal) -> Word
     ensures { λ r. ⌜ r ≡ noWord why ⌝ }
 {
+    let numbers = not_written(why);
     Word {
-        refusal: number(why),
-        expected: expected(why),
-        actual: actual(why),
+        refusal: numbers.refusal,
+        expected: numbers.expected,
+        actual: numbers.actual,
         continuation: false,
         message: 0,
         corrected: 0,
@@ -127,7 +127,7 @@ fn flat_decoded(answer: Decoded) -> Word
 }
 
 pub fn decode(coded: &[u8], dvcc: u8) -> Word
-    ensures { λ r. ⌜ r ≡ flatWord (decoding (lentDecode (now (coded .entry))) (now (coded .entry)) dvcc) ⌝ }
+    ensures { λ r. ⌜ r ≡ flatWord (decoding (decodeArguments (now (coded .entry))) (now (coded .entry)) dvcc) ⌝ }
 {
     flat_decoded(sacch::decode(coded, dvcc))
 }

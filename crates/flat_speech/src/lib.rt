@@ -1,11 +1,9 @@
 // Flat functions over the speech frames of VSELP (`speech`) and ACELP CC1. Each answers a number of document 01, or 0 with its result.
 use acelp_interleaver::Interleaving;
 use bits::Refusal;
-use bits::refusals::actual;
-use bits::refusals::expected;
-use bits::refusals::number;
 use flat_coding::calls::Written;
 use flat_coding::calls::flat_wrote;
+use flat_coding::calls::not_written;
 use speech::CrcStatus;
 ghost use mathlib.Core.Path.{_≡_};
 ghost use Rattle.acelp_cc1.specs.Calls as acelp_calls;
@@ -29,10 +27,11 @@ pub struct Frame {
 fn no_frame(why: Refusal) -> Frame
     ensures { λ r. ⌜ r ≡ noFrame why ⌝ }
 {
+    let numbers = not_written(why);
     Frame {
-        refusal: number(why),
-        expected: expected(why),
-        actual: actual(why),
+        refusal: numbers.refusal,
+        expected: numbers.expected,
+        actual: numbers.actual,
         valid: false,
         corrected: 0,
     }

@@ -1,3 +1,2 @@
 -- The laws of slots.
 pub mod RoundTrip
-pub mod Answering

@@ -52,7 +52,7 @@ unfolding tally
 silent-tally place r = refl
 
 module _ (coded symbols : List ℕ) (rows : List (List ℕ)) (enough : length coded ≡ 208) (size : length symbols ≡ 108) (binary : allBinary coded ≡ true)
-    (fine : StepRows rows) (read : SymbolsTo coded symbols 108) where
+    (passed : StepRows rows) (read : SymbolsTo coded symbols 108) where
   -- the pair that a step receives
   pair : (k : ℕ) → k < 108 → silent k ≡ false
       → (getD symbols k 0 < 4) × (bit (getD symbols k 0 / 2) ≡ getD (bits coded) (pairAt k) false)
@@ -78,10 +78,10 @@ module _ (coded symbols : List ℕ) (rows : List (List ℕ)) (enough : length co
       by : (s : Bool) → silent k ≡ s → getD (getD rows (getD symbols k 0) []) place 0
           ≡ tally cost (outputsAt acelp place) (heardAt (bits coded) (silent k) (pairAt k) ∷ heardAt (bits coded) (silent k) (pairAt k + 1) ∷ rest)
       by true e =
-          ap (λ (i : ℕ). getD (getD rows i []) place 0) (none k h e) ∙ fine .free place low ∙ silent-tally place rest
+          ap (λ (i : ℕ). getD (getD rows i []) place 0) (none k h e) ∙ passed .free place low ∙ silent-tally place rest
           ∙ ap (λ (s : Bool). tally cost (outputsAt acelp place) (heardAt (bits coded) s (pairAt k) ∷ heardAt (bits coded) s (pairAt k + 1) ∷ rest)) (sym e)
       by false e =
-          fine .pairs (getD symbols k 0) (pair k h e .0) place low
+          passed .pairs (getD symbols k 0) (pair k h e .0) place low
           ∙ ap₂ (λ (p q : Bool). distanceAt place p q) (pair k h e .1) (pair k h e .2)
           ∙ sent-tally place (getD (bits coded) (pairAt k) false) (getD (bits coded) (pairAt k + 1) false) rest
           ∙ ap (λ (s : Bool). tally cost (outputsAt acelp place) (heardAt (bits coded) s (pairAt k) ∷ heardAt (bits coded) s (pairAt k + 1) ∷ rest)) (sym e)
@@ -99,14 +99,14 @@ module _ (coded symbols : List ℕ) (rows : List (List ℕ)) (enough : length co
       record {
         symbol = λ k h. by k (omega arith) (silent k) refl;
         small = λ i g hi hg. elim (ℕ-discrete i 4) [
-          | yes e ↦ omega (arith, ap (λ (j : ℕ). getD (getD rows j []) g 0) e, fine .free g hg)
-          | no n ↦ omega (arith, fine .pairs i (omega (arith, fine .five)) g hg, distance-le g (bit (i / 2)) (bit (i % 2)))
+          | yes e ↦ omega (arith, ap (λ (j : ℕ). getD (getD rows j []) g 0) e, passed .free g hg)
+          | no n ↦ omega (arith, passed .pairs i (omega (arith, passed .five)) g hg, distance-le g (bit (i / 2)) (bit (i % 2)))
         ];
       }
     where
       by : (k : ℕ) → k < 108 → (s : Bool) → silent k ≡ s → getD symbols k 0 < length rows
-      by k h true e = omega (arith, none k h e, fine .five)
-      by k h false e = omega (arith, pair k h e .0, fine .five)
+      by k h true e = omega (arith, none k h e, passed .five)
+      by k h false e = omega (arith, pair k h e .0, passed .five)
 
   -- the engine searches the words of the code
   pub found : (word : List ℕ) (r : Outcome)

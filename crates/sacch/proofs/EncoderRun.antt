@@ -7,7 +7,7 @@ use native.Mathlib.Nat.{zero-add}
 use native.Mathlib.Omega.{arith}
 use lib.ListN.{getD, length, replicate}
 use Rattle.bits.specs.Refusals.{accepted, refused}
-use Rattle.bits.specs.declared.Lent.{Lent}
+use Rattle.bits.specs.declared.arguments.Arguments.{Arguments}
 use Rattle.bits.specs.declared.Refusal.the-variants.{Symbol}
 use Rattle.bits.proofs.Ring.{Holds, holds-next}
 use Rattle.sacch_interleaver.proofs.Diagonal.{diagonal, field-of}
@@ -18,27 +18,27 @@ use Rattle.sacch_encoder.specs.declared.SacchEncoder.{SacchEncoder}
 use Rattle.sacch_encoder.proofs.Rows.{row-below}
 use Rattle.sacch.specs.Calls.{EncoderCall, Given, Words, no-words, sent, refused-word, refused-bits, brought, fieldsSent}
 use Rattle.sacch.specs.Listening.{rowsFrom, sixesForAll}
-use Rattle.sacch.proofs.Fitting.{FittingEncoder, encoder-fits, encoded-fits, all-fit, call-fine, call-refused}
+use Rattle.sacch.proofs.Fitting.{FittingEncoder, encoder-fits, encoded-fits, all-fit, call-passed, call-refused}
 
 -- ---- the calls
 word-sent : {e : SacchEncoder} (c : Bool) (m d : ℕ) → FittingEncoder e → m < 2 ^ 48
     → encodeWordOf e c m d ≡ record { answer = accepted tt; encoder = encodedAll e (sixesOf (wordOf c m d)); made = fieldsFrom e (sixesOf (wordOf c m d)) }
 unfolding encodeWordOf
 word-sent {e} c m d f h =
-    ap (λ (l : Lent). sending l e (replicate 11 0) (encodedAll e (sixesOf (wordOf c m d))) (fieldsFrom e (sixesOf (wordOf c m d))))
-    (call-fine (encoder-fits f) (2 ^ 48) m h)
+    ap (λ (l : Arguments). sending l e (replicate 11 0) (encodedAll e (sixesOf (wordOf c m d))) (fieldsFrom e (sixesOf (wordOf c m d))))
+    (call-passed (encoder-fits f) (2 ^ 48) m h)
 
 word-refused : {e : SacchEncoder} (c : Bool) (m d : ℕ) → FittingEncoder e → 2 ^ 48 ≤ m
     → encodeWordOf e c m d ≡ record { answer = refused Symbol; encoder = e; made = replicate 11 0 }
 unfolding encodeWordOf
 word-refused {e} c m d f h =
-    ap (λ (l : Lent). sending l e (replicate 11 0) (encodedAll e (sixesOf (wordOf c m d))) (fieldsFrom e (sixesOf (wordOf c m d))))
+    ap (λ (l : Arguments). sending l e (replicate 11 0) (encodedAll e (sixesOf (wordOf c m d))) (fieldsFrom e (sixesOf (wordOf c m d))))
     (call-refused (encoder-fits f) (2 ^ 48) m h)
 
 bits-refused : {e : SacchEncoder} (six : ℕ) → FittingEncoder e → 64 ≤ six → encodeBitsOf e six ≡ record { answer = refused Symbol; encoder = e; made = 0 }
 unfolding encodeBitsOf
 bits-refused {e} six f h =
-    ap (λ (l : Lent). sending l e 0 (encoded e six) (fieldNow (encoded e six))) (call-refused (encoder-fits f) 64 six h)
+    ap (λ (l : Arguments). sending l e 0 (encoded e six) (fieldNow (encoded e six))) (call-refused (encoder-fits f) 64 six h)
 
 fields-append : (sixes others : List ℕ) (e : SacchEncoder) → fieldsFrom e (sixes ++ others) ≡ fieldsFrom e sixes ++ fieldsFrom (encodedAll e sixes) others
 unfolding fieldsFrom encodedAll

@@ -7,12 +7,13 @@ use native.Mathlib.Omega.{arith}
 use borrow.Author.Tests.{lt-ltb, le-ltb}
 use lib.Dec.{ltb}
 use lib.ListN.{length, length-set}
-use Rattle.bits.specs.Refusals.{Answer, accepted, pending, rejected, refused, firstOf, belowOf}
-use Rattle.bits.specs.declared.Lent.the-variants.{Fine, Refused}
+use Rattle.bits.specs.Refusals.{Answer, accepted, pending, rejected, refused}
+use Rattle.bits.specs.Arguments.{firstRefusal, belowOf}
+use Rattle.bits.specs.declared.arguments.Arguments.the-variants.{Passed, Refused}
 use Rattle.bits.specs.declared.Refusal.the-variants.{State, Symbol}
 use Rattle.sacch_interleaver.specs.Diagonal.{rowOf}
 use Rattle.sacch_interleaver.proofs.Diagonal.{twelve-below}
-use Rattle.sacch_interleaver.proofs.Twelve.{twelve-set}
+use Rattle.bits.proofs.Below.{below-set}
 use Rattle.sacch_encoder.specs.Encoder.{encoderFits, encoded, encodedAll}
 use Rattle.sacch_encoder.specs.declared.SacchEncoder.{SacchEncoder}
 use Rattle.sacch_encoder.proofs.Fits as encoder
@@ -25,10 +26,10 @@ use Rattle.sacch_receiver.specs.declared.SacchReceiver.{SacchReceiver}
 
 -- ---- a call on a state that fits: only its number is left to test
 module _ {state : Bool} (fits : state ≡ true) (limit x : ℕ) where
-  pub call-fine : x < limit → firstOf (cond state Fine (Refused State)) (belowOf limit x) ≡ Fine
-  call-fine h = rw (fits, lt-ltb x limit h)
+  pub call-passed : x < limit → firstRefusal (cond state Passed (Refused State)) (belowOf limit x) ≡ Passed
+  call-passed h = rw (fits, lt-ltb x limit h)
 
-  pub call-refused : limit ≤ x → firstOf (cond state Fine (Refused State)) (belowOf limit x) ≡ Refused Symbol
+  pub call-refused : limit ≤ x → firstRefusal (cond state Passed (Refused State)) (belowOf limit x) ≡ Refused Symbol
   call-refused h = rw (fits, le-ltb x limit h)
 
 -- ---- the encoder, with the length that its array has
@@ -72,7 +73,7 @@ field-fits {r} field f h =
         available = f .fit .available;
         phase = f .fit .phase;
         lock = f .fit .lock;
-        fields = twelve-set (r .fields) (r .«field_cursor») field (f .fit .fields) h;
+        fields = below-set 4096 (r .fields) (r .«field_cursor») field (f .fit .fields) h;
         rows = f .fit .rows;
       };
       fields-length = length-set (r .fields) (r .«field_cursor») field ∙ f .fields-length;
@@ -91,7 +92,7 @@ row-fits {r} row f h =
         phase = omega arith;
         lock = f .fit .lock;
         fields = f .fit .fields;
-        rows = twelve-set (r .rows) (r .«row_cursor») row (f .fit .rows) h;
+        rows = below-set 4096 (r .rows) (r .«row_cursor») row (f .fit .rows) h;
       };
       fields-length = f .fields-length;
       rows-length = length-set (r .rows) (r .«row_cursor») row ∙ f .rows-length;

@@ -6,13 +6,13 @@ use native.Mathlib.Omega.{arith}
 use lib.Dec.{ltb}
 use lib.ListN.{getD, length}
 use Rattle.bits.specs.Refusals.{Answer, accepted, pending, rejected, refused}
-use Rattle.bits.specs.declared.Lent.{Lent}
+use Rattle.bits.specs.declared.arguments.Arguments.{Arguments}
 use Rattle.sacch_decoder.specs.declared.SacchWord.{SacchWord}
 use Rattle.sacch_receiver.specs.Receiver.{fieldStored, trialAnswer, tried, stepOf, pushing, pushOf, Moved}
 use Rattle.sacch_receiver.specs.Stored.{tries, windowOf, decodeRows}
 use Rattle.sacch_receiver.specs.declared.SacchReceiver.{SacchReceiver}
 use Rattle.sacch.specs.Calls.{Push, Fields, no-fields, pushed, refused-field, counted, answers}
-use Rattle.sacch.proofs.Fitting.{Fitting, fits, step-fits, either, call-fine, call-refused}
+use Rattle.sacch.proofs.Fitting.{Fitting, fits, step-fits, either, call-passed, call-refused}
 use Rattle.sacch.proofs.ReceiverRun.{receiverAt}
 
 -- ---- a step is counted
@@ -48,14 +48,14 @@ module _ {r : SacchReceiver} (fit : Fitting r) (field dvcc : ℕ) (pushes : List
       → answers r (record { field = field; dvcc = dvcc } ∷ pushes) ≡ stepOf r field dvcc .answer ∷ answers (stepOf r field dvcc .receiver) pushes
   unfolding answers pushOf IsCounted
   answers-pushed h =
-      ap (λ (l : Lent). let m : Moved = pushing l r (stepOf r field dvcc) in counted (m .answer) (answers (m .receiver) pushes))
-      (call-fine (fits fit) 4096 field h)
+      ap (λ (l : Arguments). let m : Moved = pushing l r (stepOf r field dvcc) in counted (m .answer) (answers (m .receiver) pushes))
+      (call-passed (fits fit) 4096 field h)
       ∙ step-counted r field dvcc (answers (stepOf r field dvcc .receiver) pushes)
 
   pub answers-refused : 4096 ≤ field → answers r (record { field = field; dvcc = dvcc } ∷ pushes) ≡ answers r pushes
   unfolding answers pushOf
   answers-refused h =
-      ap (λ (l : Lent). let m : Moved = pushing l r (stepOf r field dvcc) in counted (m .answer) (answers (m .receiver) pushes))
+      ap (λ (l : Arguments). let m : Moved = pushing l r (stepOf r field dvcc) in counted (m .answer) (answers (m .receiver) pushes))
       (call-refused (fits fit) 4096 field h)
 
 -- ---- a list of pushes

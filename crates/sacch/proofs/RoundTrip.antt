@@ -9,7 +9,7 @@ use Rattle.bits.specs.Refusals.{accepted}
 use Rattle.coding.specs.Codes.{coded, dcch}
 use Rattle.coding.specs.Registers.{memoryHigh}
 use Rattle.words.specs.Words.{madeOf}
-use Rattle.words.proofs.Made.{made-length, made-sound, made-message}
+use Rattle.words.proofs.Made.{made-length, made-valid, made-message}
 use Rattle.sacch_encoder.specs.Words.{wordOf}
 use Rattle.sacch_decoder.specs.Decoding.{contentOf, decodeOf}
 use Rattle.sacch_decoder.proofs.Meaning.{taken-finished}
@@ -31,4 +31,4 @@ module _ (continuation : Bool) (message dvcc : ℕ) where
   unfolding madeOf
   round-trip s hs h =
       as-sent s hs (wordOf continuation message dvcc) word-length dvcc
-      ∙ taken-finished (wordOf continuation message dvcc) 0 dvcc refl (made-sound (continuation ∷ false ∷ []) message dvcc refl) ∙ ap accepted (content-own h)
+      ∙ taken-finished (wordOf continuation message dvcc) 0 dvcc refl (made-valid (continuation ∷ false ∷ []) message dvcc refl) ∙ ap accepted (content-own h)

@@ -1,6 +1,5 @@
 -- The laws.
 pub mod NewestFive
-pub mod Received
 pub mod Meaning
 pub mod Settling
 pub mod Weighing

@@ -16,7 +16,7 @@ use Rattle.trellis.specs.Words.{OfLength}
 use Rattle.viterbi.specs.Hard.{freeWeight}
 use Rattle.trellis.specs.Nearest.{nearestWords}
 use Rattle.trellis.proofs.Members.{alone, shared, shared-back, some-nearest, at-least-one}
-use Rattle.sacch_decoder.specs.Decoding.{sound, contentOf, finished, nearestTo, decodeOf}
+use Rattle.sacch_decoder.specs.Decoding.{wordValid, contentOf, finished, nearestTo, decodeOf}
 use Rattle.sacch_decoder.specs.declared.SacchWord.{SacchWord}
 
 -- ---- one word
@@ -28,7 +28,7 @@ module _ (w : List Bool) (corrected dvcc : ℕ) where
   -- no end of it is Ambiguous
   finished-clear : finished w corrected dvcc ≡ refused refusal.Ambiguous → ⊥
   unfolding finished
-  finished-clear = by (getD w 1 false) (sound w dvcc)
+  finished-clear = by (getD w 1 false) (wordValid w dvcc)
     where
       by : (reserved right : Bool) → cond reserved (refused refusal.Reserved) (cond right (accepted (contentOf w corrected)) (refused refusal.Crc)) ≡ refused refusal.Ambiguous → ⊥
       by true right e = let z : _≡_ {A = ℕ} 0 1 = cc in omega arith
@@ -37,21 +37,21 @@ module _ (w : List Bool) (corrected dvcc : ℕ) where
 
   pub record Taken (x : SacchWord) : Type 0 where
     pub reserved : getD w 1 false ≡ false
-    pub right : sound w dvcc ≡ true
+    pub right : wordValid w dvcc ≡ true
     pub content : x ≡ contentOf w corrected
 
   -- where it is accepted
   pub finished-taken : {x : SacchWord} → finished w corrected dvcc ≡ accepted x → Taken x
   unfolding finished
-  finished-taken {x} = by (getD w 1 false) refl (sound w dvcc) refl
+  finished-taken {x} = by (getD w 1 false) refl (wordValid w dvcc) refl
     where
-      by : (reserved : Bool) → getD w 1 false ≡ reserved → (right : Bool) → sound w dvcc ≡ right
+      by : (reserved : Bool) → getD w 1 false ≡ reserved → (right : Bool) → wordValid w dvcc ≡ right
           → cond reserved (refused refusal.Reserved) (cond right (accepted (contentOf w corrected)) (refused refusal.Crc)) ≡ accepted x → Taken x
       by true a right b e = clash e refl
       by false a true b e = record { reserved = a; right = b; content = cc }
       by false a false b e = clash e refl
 
-  pub taken-finished : getD w 1 false ≡ false → sound w dvcc ≡ true → finished w corrected dvcc ≡ accepted (contentOf w corrected)
+  pub taken-finished : getD w 1 false ≡ false → wordValid w dvcc ≡ true → finished w corrected dvcc ≡ accepted (contentOf w corrected)
   unfolding finished
   taken-finished a b = rw (a, b)
 

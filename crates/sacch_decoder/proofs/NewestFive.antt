@@ -8,7 +8,7 @@ use lib.Dec.{ltb}
 use lib.ListN.{length, getD, take, drop, take-append-drop, length-drop, length-map, List·getD-map}
 use lib.Seq.{getD-drop}
 use borrow.Author.Tests.{lt-ltb}
-use Rattle.bits.specs.Bits.{byte, bit, bytes, bits, allBinary}
+use Rattle.bits.specs.Bits.{byte, bit, bytes, bits, allBelow, allBinary}
 use Rattle.bits.specs.Numbers.{packed}
 use Rattle.bits.specs.Places.{listed}
 use Rattle.bits.proofs.Binary.{bits-bytes, bytes-bits}
@@ -31,7 +31,7 @@ last-five w size =
 -- ---- any five bytes of a list of them are bits, and the number of five bits is a byte
 pub five-asks : (l : List ℕ) → allBinary l ≡ true → (h i j k m : ℕ)
     → (5 ≤ 64) × (allBinary (getD l h 0 ∷ getD l i 0 ∷ getD l j 0 ∷ getD l k 0 ∷ getD l m 0 ∷ []) ≡ true)
-unfolding allBinary
+unfolding allBelow
 five-asks l b h i j k m = (omega arith, rw (bit-at h, bit-at i, bit-at j, bit-at k, bit-at m))
   where
     bit-at : (n : ℕ) → ltb (getD l n 0) 2 ≡ true

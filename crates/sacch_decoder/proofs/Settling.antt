@@ -8,8 +8,8 @@ use lib.ListN.{length, getD, take, length-map, length-reverse}
 use Rattle.bits.specs.Bits.{byte, bits, allBinary}
 use Rattle.bits.specs.Numbers.{packed}
 use Rattle.bits.specs.Refusals.{Answer, accepted, refused}
-use Rattle.bits.specs.declared.Lent.{Lent}
-use Rattle.bits.specs.declared.Lent.the-variants.{Fine, Refused}
+use Rattle.bits.specs.declared.arguments.Arguments.{Arguments}
+use Rattle.bits.specs.declared.arguments.Arguments.the-variants.{Passed, Refused}
 use Rattle.bits.specs.declared.Refusal.{Refusal}
 use Rattle.bits.specs.declared.Refusal.the-variants as refusal
 use Rattle.bits.proofs.Binary.{bits-bytes, binary-bytes}
@@ -20,7 +20,7 @@ use Rattle.viterbi.specs.Hard.{freeWeight}
 use Rattle.words.specs.Words.{messageIn}
 use Rattle.words.proofs.Parts.{flag}
 use Rattle.trellis.proofs.Members.{found-alone, found-shared}
-use Rattle.sacch_decoder.specs.Decoding.{sound, contentOf, finished, decodeOf, lentDecode, decoding}
+use Rattle.sacch_decoder.specs.Decoding.{wordValid, contentOf, finished, decodeOf, decodeArguments, decoding}
 use Rattle.sacch_decoder.specs.declared.SacchWord.{SacchWord}
 use Rattle.sacch_decoder.proofs.Meaning.{decode-one, decode-more}
 
@@ -37,7 +37,7 @@ module _ (word : List ℕ) (binary : allBinary word ≡ true) where
   }
 
   -- ---- `finish`
-  pub finished-is : (tie : Bool) (corrected dvcc : ℕ) {right : Bool} {x : SacchWord} → right ≡ sound (bits word) dvcc → x ≡ contentOf (bits word) corrected
+  pub finished-is : (tie : Bool) (corrected dvcc : ℕ) {right : Bool} {x : SacchWord} → right ≡ wordValid (bits word) dvcc → x ≡ contentOf (bits word) corrected
       → cond tie (refused refusal.Ambiguous) (cond (eqb (getD word 1 0) 1) (refused refusal.Reserved) (cond right (accepted x) (refused refusal.Crc)))
       ≡ cond tie (refused refusal.Ambiguous) (finished (bits word) corrected dvcc)
   unfolding finished
@@ -62,9 +62,9 @@ module _ (coded : List ℕ) {word : List ℕ} {r : Outcome} (f : Found (OfLength
           ∙ sym (decode-one (bits coded) dvcc (found-alone f t))
 
 -- ---- `decode`
-module _ (coded : List ℕ) (dvcc : ℕ) {l : Lent} (told : l ≡ lentDecode coded) where
-  pub declined-end : (why : Refusal) → l ≡ Refused why → refused why ≡ decoding (lentDecode coded) coded dvcc
-  declined-end why e = ap (λ (x : Lent). decoding x coded dvcc) (sym e ∙ told)
+module _ (coded : List ℕ) (dvcc : ℕ) {l : Arguments} (told : l ≡ decodeArguments coded) where
+  pub declined-end : (why : Refusal) → l ≡ Refused why → refused why ≡ decoding (decodeArguments coded) coded dvcc
+  declined-end why e = ap (λ (x : Arguments). decoding x coded dvcc) (sym e ∙ told)
 
-  pub answered-end : l ≡ Fine → {answer : Answer SacchWord} → answer ≡ decodeOf (bits coded) dvcc → answer ≡ decoding (lentDecode coded) coded dvcc
-  answered-end fine e = e ∙ ap (λ (x : Lent). decoding x coded dvcc) (sym fine ∙ told)
+  pub answered-end : l ≡ Passed → {answer : Answer SacchWord} → answer ≡ decodeOf (bits coded) dvcc → answer ≡ decoding (decodeArguments coded) coded dvcc
+  answered-end passed e = e ∙ ap (λ (x : Arguments). decoding x coded dvcc) (sym passed ∙ told)

@@ -6,11 +6,13 @@ use lib.Dec.{eqb}
 use lib.ListN.{length, getD, take}
 use Rattle.bits.specs.Bits.{bits}
 use Rattle.bits.specs.Numbers.{packed}
-use Rattle.bits.specs.Refusals.{Answer, accepted, refused, firstOf, exactOf, binaryOf}
-use Rattle.bits.specs.declared.Lent.{Lent}
-use Rattle.bits.specs.declared.Lent.the-variants.{Fine, Refused}
+use Rattle.bits.specs.Refusals.{Answer, accepted, refused}
+use Rattle.bits.specs.Arguments.{exactBits}
+use Rattle.bits.specs.declared.arguments.Arguments.{Arguments}
+use Rattle.bits.specs.declared.arguments.Arguments.the-variants.{Passed, Refused}
 use Rattle.bits.specs.declared.Refusal.the-variants as refusal
-use Rattle.words.specs.Words as words
+use Rattle.checksums.specs.Checksums.{crcValid}
+use Rattle.checksums.specs.declared.CrcMode.the-variants.{Addressed}
 use Rattle.words.specs.Words.{messageIn}
 use Rattle.viterbi.specs.Hard.{freeWeight}
 use Rattle.trellis.specs.Nearest.{nearestWords}
@@ -25,8 +27,8 @@ decodeAnswer (decoded.Refused why) = refused why
 
 -- ---- one word
 -- whether the checksum in a word is that of its first 50 bits
-abbrev pub sound : List Bool → ℕ → Bool
-sound w dvcc = words.sound 50 w dvcc
+abbrev pub wordValid : List Bool → ℕ → Bool
+wordValid w dvcc = crcValid 50 w dvcc Addressed
 
 -- the content of a word that has so many disagreements; the memory that it leaves is its last five bits, the newest highest
 unfoldable pub contentOf : List Bool → ℕ → SacchWord
@@ -36,7 +38,7 @@ contentOf w corrected =
 -- Reserved where its second bit is set, then Crc where its checksum differs
 unfoldable pub finished : List Bool → ℕ → ℕ → Answer SacchWord
 finished w corrected dvcc =
-    cond (getD w 1 false) (refused refusal.Reserved) (cond (sound w dvcc) (accepted (contentOf w corrected)) (refused refusal.Crc))
+    cond (getD w 1 false) (refused refusal.Reserved) (cond (wordValid w dvcc) (accepted (contentOf w corrected)) (refused refusal.Crc))
 
 -- ---- the received bits
 -- The words of 66 bits, newest first, with the fewest disagreements over the 32 starting memories.
@@ -51,9 +53,9 @@ decodeOf received dvcc =
     (refused refusal.Ambiguous)
 
 -- ---- the call: the length, then the symbols
-abbrev pub lentDecode : List ℕ → Lent
-lentDecode coded = firstOf (exactOf 132 (length coded)) (binaryOf coded)
+abbrev pub decodeArguments : List ℕ → Arguments
+decodeArguments coded = exactBits 132 coded
 
-abbrev pub decoding : Lent → List ℕ → ℕ → Answer SacchWord
+abbrev pub decoding : Arguments → List ℕ → ℕ → Answer SacchWord
 decoding (Refused why) coded dvcc = refused why
-decoding Fine coded dvcc = decodeOf (bits coded) dvcc
+decoding Passed coded dvcc = decodeOf (bits coded) dvcc

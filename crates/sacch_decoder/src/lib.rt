@@ -1,13 +1,12 @@
 // Decoding of SACCH words (IS-54-B 2.7.3.1.2). The contracts cite specs/.
 // Ported from 136-bts, sacch.rs, and changed (see NOTICE).
-use bits::Lent;
 use bits::Refusal;
-use bits::exact;
-use bits::first;
-use bits::only_bits;
+use bits::arguments::Arguments;
+use bits::arguments::exact_bits;
 use bits::pack;
+use checksums::CrcMode;
+use checksums::crc_valid;
 use trellis::Outcome;
-use words::is_sound;
 ghost use mathlib.Core.Bool.{cond, true};
 ghost use mathlib.Core.List.{reverse};
 ghost use mathlib.Core.Path.{_≡_};
@@ -16,7 +15,7 @@ ghost use Rattle.bits.specs.Bits.{allBinary, bits};
 ghost use Rattle.bits.specs.Numbers.{packed};
 ghost use Rattle.bits.specs.Refusals.{accepted, refused};
 ghost use Rattle.bits.specs.declared.Refusal.the-variants.{Ambiguous, Crc, Reserved};
-ghost use Rattle.sacch_decoder.specs.Decoding.{contentOf, decodeAnswer, decodeOf, decoding, finished, lentDecode};
+ghost use Rattle.sacch_decoder.specs.Decoding.{contentOf, decodeAnswer, decodeOf, decoding, finished, decodeArguments};
 
 // A decoded word.
 pub struct SacchWord {
@@ -33,14 +32,6 @@ pub struct SacchWord {
 pub enum Decoded {
     Accepted(SacchWord),
     Refused(Refusal),
-}
-
-fn lent_decode(coded: &[u8]) -> Lent
-    ensures { λ r. ⌜ r ≡ lentDecode (now (coded .entry)) ⌝ }
-{
-    let length = exact(132, coded.len());
-    let symbols = only_bits(coded);
-    first(length, symbols)
 }
 
 // The memory that a word leaves: its last five bits, the newest highest.
@@ -88,7 +79,7 @@ fn finish(word: &[u8], found: Outcome, dvcc: u8) -> Decoded
     requires { ⌜ (length (now word) ≡ 66) × (allBinary (now word) ≡ true) ⌝ }
     ensures { λ r. ⌜ decodeAnswer r ≡ cond (found .tie) (refused Ambiguous) (finished (bits (now (word .entry))) (found .metric) dvcc) ⌝ }
 {
-    let right = is_sound(50, word, dvcc);
+    let right = crc_valid(50, word, dvcc, CrcMode::Addressed);
     let content = content(word, found.metric);
     verdict(found.tie, word[1] == 1, right, content)
 }
@@ -105,10 +96,10 @@ fn answer(coded: &[u8], dvcc: u8) -> Decoded
 
 // The content of the word nearest to the coded bits, where one alone is.
 pub fn decode(coded: &[u8], dvcc: u8) -> Decoded
-    ensures { λ r. ⌜ decodeAnswer r ≡ decoding (lentDecode (now (coded .entry))) (now (coded .entry)) dvcc ⌝ }
+    ensures { λ r. ⌜ decodeAnswer r ≡ decoding (decodeArguments (now (coded .entry))) (now (coded .entry)) dvcc ⌝ }
 {
-    let ready = lent_decode(coded);
-    if let Lent::Refused(why) = ready {
+    let ready = exact_bits(132, coded);
+    if let Arguments::Refused(why) = ready {
         return Decoded::Refused(why);
     }
     answer(coded, dvcc)

@@ -6,14 +6,14 @@ use native.Mathlib.Nat.{mod-lt}
 use native.Mathlib.Omega.{arith}
 use borrow.Author.Tests.{lt-ltb, ltb-true}
 use lib.Dec.{ltb}
-use Rattle.bits.specs.Refusals.{firstOf}
-use Rattle.bits.specs.declared.Lent.{Lent}
-use Rattle.bits.specs.declared.Lent.the-variants.{Fine}
+use Rattle.bits.specs.Arguments.{firstRefusal}
+use Rattle.bits.specs.declared.arguments.Arguments.{Arguments}
+use Rattle.bits.specs.declared.arguments.Arguments.the-variants.{Passed}
 use Rattle.bits.specs.declared.Refusal.the-variants.{State}
-use Rattle.bits.proofs.Binary.{cond-true}
-use Rattle.bits.proofs.Refusing.{passed, fine-first}
+use Rattle.bits.proofs.Below.{cond-true}
+use Rattle.bits.proofs.Refusing.{test-passed, passed-first}
 use Rattle.sacch_interleaver.specs.Diagonal.{allTwelve}
-use Rattle.sacch_interleaver.proofs.Twelve.{twelve-set}
+use Rattle.bits.proofs.Below.{below-set}
 use Rattle.sacch_encoder.specs.Encoder.{encoderFits, encoderState, encoded}
 use Rattle.sacch_encoder.specs.declared.SacchEncoder.{SacchEncoder}
 use Rattle.sacch_encoder.proofs.Rows.{row-below, memory-below}
@@ -51,9 +51,9 @@ fit-encoded e six f =
     record {
       memory = memory-next e six refl;
       cursor = cursor-next e six refl;
-      rows = twelve-set (e .rows) (e .cursor) _ (f .rows) (row-below (e .memory) six);
+      rows = below-set 4096 (e .rows) (e .cursor) _ (f .rows) (row-below (e .memory) six);
     }
 
 -- the tests of a call passed
-pub fit-ready : (e : SacchEncoder) (later : Lent) {l : Lent} → l ≡ firstOf (encoderState e) later → l ≡ Fine → Fit e
-fit-ready e later told fine = fit-of e (passed (encoderFits e) State Fine (fine-first (encoderState e) later (sym told ∙ fine) .0) .0)
+pub fit-ready : (e : SacchEncoder) (later : Arguments) {l : Arguments} → l ≡ firstRefusal (encoderState e) later → l ≡ Passed → Fit e
+fit-ready e later told passed = fit-of e (test-passed (encoderFits e) State Passed (passed-first (encoderState e) later (sym told ∙ passed) .0) .0)

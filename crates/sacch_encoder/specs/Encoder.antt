@@ -4,10 +4,11 @@ use mathlib.Core.List.{List, [], _∷_}
 use Prim.Native.Nat.{ℕ, _+_, _%_, _^_}
 use lib.Dec.{ltb}
 use lib.ListN.{set, replicate}
-use Rattle.bits.specs.Refusals.{Answer, accepted, refused, firstOf, belowOf}
+use Rattle.bits.specs.Refusals.{Answer, accepted, refused}
+use Rattle.bits.specs.Arguments.{firstRefusal, belowOf}
 use Rattle.bits.specs.Calls.{wroteAnswer}
-use Rattle.bits.specs.declared.Lent.{Lent}
-use Rattle.bits.specs.declared.Lent.the-variants.{Fine, Refused}
+use Rattle.bits.specs.declared.arguments.Arguments.{Arguments}
+use Rattle.bits.specs.declared.arguments.Arguments.the-variants.{Passed, Refused}
 use Rattle.bits.specs.declared.Refusal.the-variants.{State}
 use Rattle.sacch_interleaver.specs.Diagonal.{allTwelve, fieldOf}
 use Rattle.sacch_encoder.specs.Words.{codedRow, memoryAfter, sixesOf, wordOf}
@@ -24,8 +25,8 @@ freshEncoder = record { memory = 0; rows = replicate 12 0; cursor = 0 }
 unfoldable pub encoderFits : SacchEncoder → Bool
 encoderFits e = cond (ltb (e .memory) 32) (cond (ltb (e .cursor) 12) (allTwelve (e .rows)) false) false
 
-abbrev pub encoderState : SacchEncoder → Lent
-encoderState e = cond (encoderFits e) Fine (Refused State)
+abbrev pub encoderState : SacchEncoder → Arguments
+encoderState e = cond (encoderFits e) Passed (Refused State)
 
 -- ---- six bits
 -- their row takes the place of the oldest
@@ -62,16 +63,16 @@ abbrev pub sentWord : EncodedWord → Sent (List ℕ)
 sentWord r = record { answer = wroteAnswer (r .outcome); encoder = r .encoder; made = r .fields }
 
 -- a refused call leaves the encoder
-abbrev pub sending : {A : Type 0} → Lent → SacchEncoder → A → SacchEncoder → A → Sent A
+abbrev pub sending : {A : Type 0} → Arguments → SacchEncoder → A → SacchEncoder → A → Sent A
 sending (Refused why) e nothing e′ made = record { answer = refused why; encoder = e; made = nothing }
-sending Fine e nothing e′ made = record { answer = accepted tt; encoder = e′; made = made }
+sending Passed e nothing e′ made = record { answer = accepted tt; encoder = e′; made = made }
 
 -- State, then Symbol where the six bits are above 63
 unfoldable pub encodeBitsOf : SacchEncoder → ℕ → Sent ℕ
-encodeBitsOf e six = sending (firstOf (encoderState e) (belowOf 64 six)) e 0 (encoded e six) (fieldNow (encoded e six))
+encodeBitsOf e six = sending (firstRefusal (encoderState e) (belowOf 64 six)) e 0 (encoded e six) (fieldNow (encoded e six))
 
 -- State, then Symbol where the message has more than 48 bits
 unfoldable pub encodeWordOf : SacchEncoder → Bool → ℕ → ℕ → Sent (List ℕ)
 encodeWordOf e continuation message dvcc =
-    sending (firstOf (encoderState e) (belowOf (2 ^ 48) message)) e (replicate 11 0)
+    sending (firstRefusal (encoderState e) (belowOf (2 ^ 48) message)) e (replicate 11 0)
     (encodedAll e (sixesOf (wordOf continuation message dvcc))) (fieldsFrom e (sixesOf (wordOf continuation message dvcc)))

@@ -5,15 +5,16 @@ use crate::EncodedWord;
 use crate::SacchEncoder;
 use crate::word::code_six;
 use crate::word::fields_of;
-use bits::Lent;
 use bits::Refusal;
 use bits::Wrote;
-use bits::below;
-use bits::first;
+use bits::arguments::Arguments;
+use bits::arguments::below;
+use bits::arguments::first_refusal;
 use bits::unpack;
 use sacch_interleaver::aged;
 use sacch_interleaver::all_twelve;
 use sacch_interleaver::field_of;
+use words::MESSAGES;
 use words::complete;
 ghost use mathlib.Core.Bool.{true};
 ghost use mathlib.Core.Path.{_≡_};
@@ -22,12 +23,10 @@ ghost use lib.ListN.{length};
 ghost use Rattle.bits.specs.Bits.{allBinary, bits};
 ghost use Rattle.bits.specs.Calls.{wroteAnswer};
 ghost use Rattle.bits.specs.Numbers.{packed};
-ghost use Rattle.bits.specs.Refusals.{accepted, belowOf, firstOf};
+ghost use Rattle.bits.specs.Refusals.{accepted};
+ghost use Rattle.bits.specs.Arguments.{belowOf, firstRefusal};
 ghost use Rattle.sacch_encoder.specs.Encoder.{encodeBitsOf, encodeWordOf, encoded, encodedAll, encoderState, fieldNow, fieldsFrom, freshEncoder, sentField, sentWord};
 ghost use Rattle.sacch_encoder.specs.Words.{sixesOf};
-
-// The number of messages of 48 bits.
-const MESSAGES: u64 = 0x1000000000000;
 
 impl SacchEncoder {
     pub fn new() -> SacchEncoder
@@ -51,28 +50,28 @@ impl SacchEncoder {
     }
 
     // Refused where a number is out of its range.
-    fn state(self) -> Lent
+    fn state(self) -> Arguments
         ensures { λ r. ⌜ r ≡ encoderState self ⌝ }
     {
         if 32 <= self.memory {
-            return Lent::Refused(Refusal::State);
+            return Arguments::Refused(Refusal::State);
         }
         if 12 <= self.cursor {
-            return Lent::Refused(Refusal::State);
+            return Arguments::Refused(Refusal::State);
         }
         let rows = self.rows;
         if all_twelve(&rows) {
-            return Lent::Fine;
+            return Arguments::Passed;
         }
-        Lent::Refused(Refusal::State)
+        Arguments::Refused(Refusal::State)
     }
 
     // Refused where the state is, or what is given is not below its limit.
-    fn lent(self, limit: u64, given: u64) -> Lent
-        ensures { λ r. ⌜ r ≡ firstOf (encoderState self) (belowOf limit given) ⌝ }
+    fn arguments(self, limit: u64, given: u64) -> Arguments
+        ensures { λ r. ⌜ r ≡ firstRefusal (encoderState self) (belowOf limit given) ⌝ }
     {
         let state = self.state();
-        first(state, below(limit, given))
+        first_refusal(state, below(limit, given))
     }
 
     // The row of six bits stored over the oldest.
@@ -102,8 +101,8 @@ impl SacchEncoder {
     pub fn encode_bits(mut self, six: u8) -> EncodedField
         ensures { λ r. ⌜ sentField r ≡ encodeBitsOf self six ⌝ }
     {
-        let ready = self.lent(64, six as u64);
-        if let Lent::Refused(why) = ready {
+        let ready = self.arguments(64, six as u64);
+        if let Arguments::Refused(why) = ready {
             return EncodedField {
                 outcome: Wrote::Refused(why),
                 encoder: self,
@@ -148,8 +147,8 @@ impl SacchEncoder {
     pub fn encode_word(mut self, continuation: bool, message: u64, dvcc: u8) -> EncodedWord
         ensures { λ r. ⌜ sentWord r ≡ encodeWordOf self continuation message dvcc ⌝ }
     {
-        let ready = self.lent(MESSAGES, message);
-        if let Lent::Refused(why) = ready {
+        let ready = self.arguments(MESSAGES, message);
+        if let Arguments::Refused(why) = ready {
             return EncodedWord {
                 outcome: Wrote::Refused(why),
                 encoder: self,

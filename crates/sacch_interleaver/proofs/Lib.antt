@@ -1,5 +1,4 @@
 -- The laws of the diagonal interleaver.
-pub mod Twelve
 pub mod Rings
 pub mod Diagonal
 pub mod Weighing

@@ -1,11 +1,10 @@
 -- IS-54-B 2.7.3.1.2.1: bit j of the row of slot m is sent in slot m + j.
 -- A row is the twelve coded bits of one slot's six inputs; a field is what one slot sends. Both are numbers of twelve bits, the first bit highest.
-use mathlib.Core.Bool.{Bool, true, false, cond}
-use mathlib.Core.List.{List, [], _∷_}
+use mathlib.Core.Bool.{Bool}
+use mathlib.Core.List.{List}
 use Prim.Native.Nat.{ℕ, _+_, _-_, _/_, _%_, _^_}
-use lib.Dec.{ltb}
 use lib.ListN.{getD}
-use Rattle.bits.specs.Bits.{bit}
+use Rattle.bits.specs.Bits.{allBelow, bit}
 use Rattle.bits.specs.Numbers.{packed}
 use Rattle.bits.specs.Places.{listed}
 
@@ -23,6 +22,5 @@ unfoldable pub rowOf : List ℕ → ℕ → ℕ
 rowOf fields next = packed (listed 12 (λ (j : ℕ). bitOf (getD fields ((next + j) % 12) 0) j))
 
 -- every row or field has twelve bits
-unfoldable pub allTwelve : List ℕ → Bool
-allTwelve [] = true
-allTwelve (x ∷ l) = cond (ltb x 4096) (allTwelve l) false
+abbrev pub allTwelve : List ℕ → Bool
+allTwelve l = allBelow 4096 l

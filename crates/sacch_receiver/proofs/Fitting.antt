@@ -4,7 +4,7 @@ use mathlib.Core.Bool.{Bool, true, _&&_}
 use Prim.Native.Nat.{_<_}
 use lib.Dec.{ltb}
 use borrow.Author.Tests.{ltb-true}
-use Rattle.bits.proofs.Binary.{cond-and, cond-true}
+use Rattle.bits.proofs.Below.{cond-and, cond-true}
 use Rattle.sacch_interleaver.specs.Diagonal.{allTwelve}
 use Rattle.sacch_receiver.specs.Stored.{lockFits}
 use Rattle.sacch_receiver.specs.Receiver.{receiverFits}

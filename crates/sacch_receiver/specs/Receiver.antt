@@ -3,9 +3,10 @@ use mathlib.Core.Bool.{Bool, false, cond}
 use Prim.Native.Nat.{ℕ, _+_, _%_, min}
 use lib.Dec.{ltb}
 use lib.ListN.{set, replicate}
-use Rattle.bits.specs.Refusals.{Answer, accepted, pending, rejected, refused, firstOf, belowOf}
-use Rattle.bits.specs.declared.Lent.{Lent}
-use Rattle.bits.specs.declared.Lent.the-variants.{Fine, Refused}
+use Rattle.bits.specs.Refusals.{Answer, accepted, pending, rejected, refused}
+use Rattle.bits.specs.Arguments.{firstRefusal, belowOf}
+use Rattle.bits.specs.declared.arguments.Arguments.{Arguments}
+use Rattle.bits.specs.declared.arguments.Arguments.the-variants.{Passed, Refused}
 use Rattle.bits.specs.declared.Refusal.the-variants.{State}
 use Rattle.sacch_interleaver.specs.Diagonal.{allTwelve, rowOf}
 use Rattle.sacch_decoder.specs.declared.SacchWord.{SacchWord}
@@ -41,8 +42,8 @@ receiverFits r =
     cond (ltb (r .«field_cursor») 12) (cond (ltb (r .received) 13) (cond (ltb (r .«row_cursor») 11) (cond (ltb (r .available) 12)
     (cond (ltb (r .phase) 11) (cond (lockFits (r .lock)) (cond (allTwelve (r .fields)) (allTwelve (r .rows)) false) false) false) false) false) false) false
 
-abbrev pub receiverState : SacchReceiver → Lent
-receiverState r = cond (receiverFits r) Fine (Refused State)
+abbrev pub receiverState : SacchReceiver → Arguments
+receiverState r = cond (receiverFits r) Passed (Refused State)
 
 -- ---- one field
 -- it takes the place of the oldest
@@ -134,12 +135,12 @@ stepOf r field dvcc =
     (tried (rowStored (fieldStored r field) (rowOf (fieldStored r field .fields) (fieldStored r field .«field_cursor»))) dvcc)
 
 -- State, then Symbol where the field is above 4095; both leave the receiver
-abbrev pub pushing : Lent → SacchReceiver → Moved → Moved
+abbrev pub pushing : Arguments → SacchReceiver → Moved → Moved
 pushing (Refused why) r m = record { answer = refused why; receiver = r }
-pushing Fine r m = m
+pushing Passed r m = m
 
 unfoldable pub pushOf : SacchReceiver → ℕ → ℕ → Moved
-pushOf r field dvcc = pushing (firstOf (receiverState r) (belowOf 4096 field)) r (stepOf r field dvcc)
+pushOf r field dvcc = pushing (firstRefusal (receiverState r) (belowOf 4096 field)) r (stepOf r field dvcc)
 
 -- ---- the wrapper: Pending and rejections alike are nothing
 abbrev pub heardAnswer : Heard → Answer SacchWord

@@ -7,12 +7,12 @@ use native.Mathlib.Decide.{decLt}
 use native.Mathlib.Omega.{arith}
 use lib.ListN.{length, take, drop}
 use lib.Seq.{take-all}
-use Rattle.bits.specs.Refusals.{firstOf, exactOf}
-use Rattle.bits.specs.declared.Lent.the-variants.{Fine, Refused}
-use Rattle.bits.specs.declared.Refusal.the-variants.{Symbol}
-use Rattle.tailbiting.specs.TailBiting.{allErasable}
+use Rattle.bits.specs.declared.arguments.Arguments.the-variants.{Passed}
+use Rattle.bits.specs.Bits.{allBelow}
+use Rattle.bits.proofs.Refusing.{erasable-passed}
+use Rattle.bits.specs.Observed.{allErasable}
 use Rattle.facch.specs.Decoding.{Decoding, decodeAnswer}
-use Rattle.facch.specs.Received.{erasableOf, lentErased}
+use Rattle.facch.specs.Decoding.{erasedArguments}
 use Rattle.facch.specs.declared.Decoded.{Decoded}
 use Rattle.facch.specs.Answers.{decodeErasedOf}
 use Rattle.facch.proofs.Meaning.{decoding-is}
@@ -53,24 +53,23 @@ replied-at r l e f = ap (commandReplied r l) (sym f ∙ e)
 
 -- ---- the bits of an `F` line are 260 bytes 0, 1 and 2
 masked-erasable : (bs ms : List Bool) → allErasable (masked bs ms) ≡ true
-unfolding masked allErasable
+unfolding masked allBelow
 masked-erasable [] ms = refl
 masked-erasable (b ∷ bs) [] = refl
 masked-erasable (b ∷ bs) (false ∷ ms) = masked-erasable bs ms
 masked-erasable (false ∷ bs) (true ∷ ms) = masked-erasable bs ms
 masked-erasable (true ∷ bs) (true ∷ ms) = masked-erasable bs ms
 
-pub observed-fine : (l : List ℕ) → length l ≡ 136 → lentErased (observedBits l) ≡ Fine
+pub observed-passed : (l : List ℕ) → length l ≡ 136 → erasedArguments (observedBits l) ≡ Passed
 unfolding observedBits
-observed-fine l e =
-    ap (λ (n : ℕ). firstOf (exactOf 260 n) (erasableOf (observedBits l))) (length-observed l e)
-    ∙ ap (λ (t : Bool). cond t Fine (Refused Symbol)) (masked-erasable (digitBits (take 65 (drop 5 l))) (digitBits (take 65 (drop 71 l))))
+observed-passed l e =
+    erasable-passed 260 (observedBits l) (length-observed l e) (masked-erasable (digitBits (take 65 (drop 5 l))) (digitBits (take 65 (drop 71 l))))
 
 -- what `decode_erased` answers to them
 pub facch-replied : (l : List ℕ) (dvcc : ℕ) {bits : List ℕ} (d : Decoded) {a : Reply} → length l ≡ 136 → bits ≡ observedBits l
-    → Decoding (lentErased bits) bits dvcc (decodeAnswer d) → a ≡ facchReply (decodeAnswer d) → a ≡ facchReply (decodeErasedOf (observedBits l) dvcc)
+    → Decoding (erasedArguments bits) bits dvcc (decodeAnswer d) → a ≡ facchReply (decodeAnswer d) → a ≡ facchReply (decodeErasedOf (observedBits l) dvcc)
 facch-replied l dvcc d long e p f =
-    f ∙ ap facchReply (decoding-is (observedBits l) dvcc (observed-fine l long) (subst (λ (bits : List ℕ). Decoding (lentErased bits) bits dvcc (decodeAnswer d)) e p))
+    f ∙ ap facchReply (decoding-is (observedBits l) dvcc (observed-passed l long) (subst (λ (bits : List ℕ). Decoding (erasedArguments bits) bits dvcc (decodeAnswer d)) e p))
 
 -- ---- no reply depends on more than 137 characters
 pub replied-cut : (r : SacchReceiver) (l : List ℕ) → replyTo r (take 137 l) ≡ replyTo r l

@@ -12,7 +12,8 @@ use borrow.Author.Tests.{ltb-true}
 use Rattle.bits.specs.Bits.{byte, bit, bits, bytes, allBinary}
 use Rattle.bits.specs.Numbers.{unpacked}
 use Rattle.bits.specs.Places.{listed, placeIn}
-use Rattle.bits.proofs.Binary.{cond-true, byte-bit, binary-head, binary-tail, binary-bytes, bits-bytes, bytes-bits}
+use Rattle.bits.proofs.Binary.{byte-bit, binary-head, binary-tail, binary-bytes, bits-bytes, bytes-bits}
+use Rattle.bits.proofs.Below.{cond-true}
 use Rattle.bits.proofs.Filled.{Filling}
 use Rattle.bits.proofs.Listed.{length-listed, getD-listed, is-listed, map-listed}
 use Rattle.bits.proofs.Packed.{unpacked-length}
@@ -21,7 +22,6 @@ use Rattle.bits.proofs.Tested.{every}
 use Rattle.bits.proofs.Scattered.{Scattering, filled-listed, scattering-over}
 use Rattle.checksums.specs.Checksums.{checksum7Of}
 use Rattle.speech.specs.Inputs.{bitsAt, parityPlaces, significantPlaces, parityOf, inputsWith, inputsOf}
-use Rattle.speech.specs.Runs.{allBelow}
 
 -- a byte by its bit
 pub byte-at : (l : List ℕ) → allBinary l ≡ true → (k : ℕ) → byte (getD (bits l) k false) ≡ getD l k 0
@@ -38,12 +38,6 @@ pub by-places : {A : Type 0} (d : A) (n : ℕ) (l : List A) → length l ≡ n �
 by-places d n l e = is-listed n _ d l e (λ i h. refl)
 
 -- ---- `gather`
-pub below-at : (places : List ℕ) (n : ℕ) → allBelow places n ≡ true → (i : ℕ) → i < length places → getD places i 0 < n
-unfolding allBelow
-below-at [] n e i h = absurd (not-suc-le-zero h)
-below-at (p ∷ places) n e zero h = ltb-true p n (cond-true (ltb p n) (allBelow places n) e .0)
-below-at (p ∷ places) n e (suc i) h = below-at places n (cond-true (ltb p n) (allBelow places n) e .1) i (omega arith)
-
 at-places : (places l : List ℕ) → allBinary l ≡ true → bytes (bitsAt places (bits l)) ≡ listed (length places) (λ i. getD l (getD places i 0) 0)
 unfolding bitsAt listed
 at-places [] l e = refl

@@ -6,8 +6,8 @@ use Prim.Native.Nat.{ℕ, suc}
 use lib.ListN.{length, take, drop}
 use Rattle.bits.specs.Bits.{bit, byte, bits, bytes, allBinary}
 use Rattle.bits.specs.Refusals.{Answer, accepted, refused}
-use Rattle.bits.specs.declared.Lent.{Lent}
-use Rattle.bits.specs.declared.Lent.the-variants.{Fine, Refused}
+use Rattle.bits.specs.declared.arguments.Arguments.{Arguments}
+use Rattle.bits.specs.declared.arguments.Arguments.the-variants.{Passed, Refused}
 use Rattle.bits.specs.declared.Refusal.{Refusal}
 use Rattle.bits.specs.declared.Refusal.the-variants as refusal
 use Rattle.bits.proofs.Binary.{bits-bytes, bytes-bits, binary-bytes, bits-take, bits-drop, binary-take, binary-drop}
@@ -17,7 +17,7 @@ use Rattle.trellis.specs.Words.{Terminated}
 use Rattle.trellis.specs.declared.Outcome.{Outcome}
 use Rattle.viterbi.specs.Hard.{weight}
 use Rattle.speech.specs.Turns.{isClassTwo, takenFrom, classTwoOf, protectedOf}
-use Rattle.speech.specs.Calls.{Told, Decoding, lentDecode, frameWeight, statusOf}
+use Rattle.speech.specs.Calls.{Told, Decoding, decodeArguments, frameWeight, statusOf}
 
 -- ---- taking commutes with a function of the elements, so bits stay bits
 pub map-taken : {A B : Type 0} (g : A → B) (test : ℕ → Bool) (p : ℕ) (l : List A) → map g (takenFrom test p l) ≡ takenFrom test p (map g l)
@@ -50,7 +50,7 @@ told-same : {u w : List Bool} {m n : ℕ} → u ≡ w → m ≡ n → _≡_ {A =
 told-same e f = ap₂ (λ (x : List Bool) (k : ℕ). record { crc = statusOf x; corrected = k }) e f
 
 module _ {frame one₀ two₀ : List ℕ} where
-  pub declined-end : {l : Lent} → l ≡ lentDecode frame (length one₀) (length two₀) → (why : Refusal) → l ≡ Refused why → Decoding frame one₀ two₀ one₀ two₀ (refused why)
+  pub declined-end : {l : Arguments} → l ≡ decodeArguments frame (length one₀) (length two₀) → (why : Refusal) → l ≡ Refused why → Decoding frame one₀ two₀ one₀ two₀ (refused why)
   declined-end told why e =
       record {
         declined = λ y ey. let same : y ≡ why = cc in (ap refused (sym same), refl, refl);
@@ -58,11 +58,11 @@ module _ {frame one₀ two₀ : List ℕ} where
         settled = λ ef n. never-both ef (sym told ∙ e);
       }
 
-  module _ (fine : lentDecode frame (length one₀) (length two₀) ≡ Fine) {inputs : List ℕ} {r : Outcome} (f : Found (Terminated 89) (frameWeight frame) inputs r) where
+  module _ (passed : decodeArguments frame (length one₀) (length two₀) ≡ Passed) {inputs : List ℕ} {r : Outcome} (f : Found (Terminated 89) (frameWeight frame) inputs r) where
     pub unclear-end : r .tie ≡ true → Decoding frame one₀ two₀ one₀ two₀ (refused refusal.Ambiguous)
     unclear-end t =
         record {
-          declined = λ y ey. never-both fine ey;
+          declined = λ y ey. never-both passed ey;
           unclear = λ ef u. (refl, refl, refl);
           settled = λ ef n. absurd (n (f .tied t));
         }
@@ -72,7 +72,7 @@ module _ {frame one₀ two₀ : List ℕ} where
     settled-end t e₁ e₂ ea =
         let word : bits inputs ≡ reverse (f .word) = ap bits (f .written) ∙ bits-bytes (reverse (f .word)) in
         record {
-          declined = λ y ey. never-both fine ey;
+          declined = λ y ey. never-both passed ey;
           unclear = λ ef u. absurd (false≢true (sym t ∙ f .alone u));
           settled = λ ef n. record {
             word = f .word;

@@ -7,10 +7,11 @@ use lib.Dec.{eqb}
 use lib.ListN.{length}
 use Rattle.bits.specs.Bits.{bits, bytes}
 use Rattle.bits.specs.Numbers.{packed}
-use Rattle.bits.specs.Refusals.{Answer, accepted, refused, firstOf, exactOf, binaryOf}
+use Rattle.bits.specs.Refusals.{Answer, accepted, refused}
+use Rattle.bits.specs.Arguments.{firstRefusal, exactOf, binaryOf, twoAndRoom}
 use Rattle.bits.specs.Calls.{Written}
-use Rattle.bits.specs.declared.Lent.{Lent}
-use Rattle.bits.specs.declared.Lent.the-variants.{Fine, Refused}
+use Rattle.bits.specs.declared.arguments.Arguments.{Arguments}
+use Rattle.bits.specs.declared.arguments.Arguments.the-variants.{Passed, Refused}
 use Rattle.bits.specs.declared.Refusal.{Refusal}
 use Rattle.bits.specs.declared.Refusal.the-variants as refusal
 use Rattle.bits.specs.declared.Wrote.{Wrote}
@@ -26,18 +27,18 @@ use Rattle.speech.specs.declared.Decoded.{Decoded}
 use Rattle.speech.specs.declared.Decoded.the-variants as decoded
 
 -- ---- encode: each length, then the symbols
-abbrev pub lentEncode : List ℕ → List ℕ → ℕ → Lent
-lentEncode classOne classTwo room =
-    firstOf (exactOf 77 (length classOne)) (firstOf (exactOf 82 (length classTwo)) (firstOf (exactOf 260 room) (firstOf (binaryOf classOne) (binaryOf classTwo))))
+abbrev pub encodeArguments : List ℕ → List ℕ → ℕ → Arguments
+encodeArguments classOne classTwo room =
+    twoAndRoom 77 classOne 82 classTwo 260 room
 
 abbrev pub Encoding : List ℕ → List ℕ → List ℕ → List ℕ → Wrote → Type 0
 Encoding classOne classTwo frame₀ frame r =
-    Written (lentEncode classOne classTwo (length frame₀)) (bytes (frameOf (bits classOne) (bits classTwo))) frame₀ frame r
+    Written (encodeArguments classOne classTwo (length frame₀)) (bytes (frameOf (bits classOne) (bits classTwo))) frame₀ frame r
 
 -- ---- decode_candidate
-abbrev pub lentDecode : List ℕ → ℕ → ℕ → Lent
-lentDecode frame roomOne roomTwo =
-    firstOf (exactOf 260 (length frame)) (firstOf (exactOf 77 roomOne) (firstOf (exactOf 82 roomTwo) (binaryOf frame)))
+abbrev pub decodeArguments : List ℕ → ℕ → ℕ → Arguments
+decodeArguments frame roomOne roomTwo =
+    firstRefusal (exactOf 260 (length frame)) (firstRefusal (exactOf 77 roomOne) (firstRefusal (exactOf 82 roomTwo) (binaryOf frame)))
 
 -- what an accepted frame tells beside its bits
 pub record Told : Type 0 where
@@ -66,9 +67,9 @@ pub record Settled (frame classOne classTwo : List ℕ) (answer : Answer Told) :
 
 -- refused with nothing written; Ambiguous exactly where two distinct words share the fewest disagreements; or settled
 pub record Decoding (frame classOne₀ classTwo₀ classOne classTwo : List ℕ) (answer : Answer Told) : Type 0 where
-  pub declined : (why : Refusal) → lentDecode frame (length classOne₀) (length classTwo₀) ≡ Refused why
+  pub declined : (why : Refusal) → decodeArguments frame (length classOne₀) (length classTwo₀) ≡ Refused why
       → (answer ≡ refused why) × (classOne ≡ classOne₀) × (classTwo ≡ classTwo₀)
-  pub unclear : lentDecode frame (length classOne₀) (length classTwo₀) ≡ Fine → Ambiguous (Terminated 89) (frameWeight frame)
+  pub unclear : decodeArguments frame (length classOne₀) (length classTwo₀) ≡ Passed → Ambiguous (Terminated 89) (frameWeight frame)
       → (answer ≡ refused refusal.Ambiguous) × (classOne ≡ classOne₀) × (classTwo ≡ classTwo₀)
-  pub settled : lentDecode frame (length classOne₀) (length classTwo₀) ≡ Fine → (Ambiguous (Terminated 89) (frameWeight frame) → ⊥)
+  pub settled : decodeArguments frame (length classOne₀) (length classTwo₀) ≡ Passed → (Ambiguous (Terminated 89) (frameWeight frame) → ⊥)
       → Settled frame classOne classTwo answer

@@ -7,11 +7,6 @@ use lib.Dec.{ltb}
 use lib.ListN.{length, getD, take, drop}
 use lib.Seq.{paste}
 
--- each place lies below n
-unfoldable pub allBelow : List ℕ → ℕ → Bool
-allBelow [] n = true
-allBelow (p ∷ places) n = cond (ltb p n) (allBelow places n) false
-
 -- each run lies within n places
 pub record Bounds (bounds : List ℕ) (n : ℕ) : Type 0 where
   pub even : length bounds / 2 * 2 ≡ length bounds

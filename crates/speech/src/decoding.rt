@@ -7,11 +7,11 @@ use crate::inputs::take_parity;
 use crate::runs::copy_run;
 use crate::turns::take_class_two;
 use crate::turns::take_protected;
-use bits::Lent;
 use bits::Refusal;
-use bits::exact;
-use bits::first;
-use bits::only_bits;
+use bits::arguments::Arguments;
+use bits::arguments::exact;
+use bits::arguments::first_refusal;
+use bits::arguments::only_bits;
 use bits::pack;
 use trellis::Outcome;
 ghost use mathlib.Core.Bool.{true};
@@ -19,16 +19,19 @@ ghost use mathlib.Core.Path.{_≡_};
 ghost use lib.ListN.{length};
 ghost use Rattle.bits.specs.Bits.{allBinary, bits};
 ghost use Rattle.bits.specs.Refusals.{accepted};
-ghost use Rattle.bits.specs.declared.Lent.the-variants.{Fine};
+ghost use Rattle.bits.specs.declared.arguments.Arguments.the-variants.{Passed};
 ghost use Rattle.trellis.specs.Search.{Found};
 ghost use Rattle.trellis.specs.Words.{Terminated};
-ghost use Rattle.speech.specs.Calls.{Decoding, decodeAnswer, frameWeight, lentDecode, statusOf};
+ghost use Rattle.speech.specs.Calls.{Decoding, decodeAnswer, frameWeight, decodeArguments, statusOf};
 
-fn lent_decode(frame: &[u8], room_one: usize, room_two: usize) -> Lent
-    ensures { λ r. ⌜ r ≡ lentDecode (now (frame .entry)) «room_one» «room_two» ⌝ }
+fn decode_arguments(frame: &[u8], room_one: usize, room_two: usize) -> Arguments
+    ensures { λ r. ⌜ r ≡ decodeArguments (now (frame .entry)) «room_one» «room_two» ⌝ }
 {
-    let later = first(exact(82, room_two), only_bits(frame));
-    first(exact(260, frame.len()), first(exact(77, room_one), later))
+    let later = first_refusal(exact(82, room_two), only_bits(frame));
+    first_refusal(
+        exact(260, frame.len()),
+        first_refusal(exact(77, room_one), later),
+    )
 }
 
 // Writes the nearest inputs.
@@ -64,7 +67,7 @@ fn accept(inputs: &[u8], corrected: u16) -> Decoded
 
 // Searches; nothing is written before the word is known to be the only nearest one.
 fn settle(frame: &[u8], class_one: &mut [u8], class_two: &mut [u8]) -> Decoded
-    requires { ⌜ lentDecode (now frame) (length (now «class_one»)) (length (now «class_two»)) ≡ Fine ⌝ }
+    requires { ⌜ decodeArguments (now frame) (length (now «class_one»)) (length (now «class_two»)) ≡ Passed ⌝ }
     ensures { λ r. ⌜ Decoding (now (frame .entry)) (now («class_one» .entry)) (now («class_two» .entry)) (now («class_one» .exit)) (now («class_two» .exit)) (decodeAnswer r) ⌝ }
 {
     let mut inputs = [0u8; 89];
@@ -81,8 +84,8 @@ fn settle(frame: &[u8], class_one: &mut [u8], class_two: &mut [u8]) -> Decoded
 pub fn decode_candidate(frame: &[u8], class_one: &mut [u8], class_two: &mut [u8]) -> Decoded
     ensures { λ r. ⌜ Decoding (now (frame .entry)) (now («class_one» .entry)) (now («class_two» .entry)) (now («class_one» .exit)) (now («class_two» .exit)) (decodeAnswer r) ⌝ }
 {
-    let ready = lent_decode(frame, class_one.len(), class_two.len());
-    if let Lent::Refused(why) = ready {
+    let ready = decode_arguments(frame, class_one.len(), class_two.len());
+    if let Arguments::Refused(why) = ready {
         return Decoded::Refused(why);
     }
     settle(frame, class_one, class_two)

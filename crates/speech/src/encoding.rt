@@ -2,11 +2,9 @@
 // Ported from 136-bts, speech.rs, and changed (see NOTICE).
 use crate::inputs::fill_inputs;
 use crate::turns::merge;
-use bits::Lent;
 use bits::Wrote;
-use bits::exact;
-use bits::first;
-use bits::only_bits;
+use bits::arguments::Arguments;
+use bits::arguments::two_and_room;
 use coding::dcch::convolutional_encode;
 ghost use mathlib.Core.Bool.{true};
 ghost use mathlib.Core.Path.{_≡_};
@@ -14,17 +12,9 @@ ghost use lib.ListN.{length};
 ghost use Rattle.bits.specs.Bits.{allBinary, bits, bytes};
 ghost use Rattle.coding.specs.Codes.{coded, dcch};
 ghost use Rattle.coding.specs.Registers.{memoryHigh};
-ghost use Rattle.speech.specs.Calls.{Encoding, lentEncode};
+ghost use Rattle.speech.specs.Calls.{Encoding};
 ghost use Rattle.speech.specs.Frames.{frameOf};
 ghost use Rattle.speech.specs.Inputs.{inputsOf};
-
-fn lent_encode(class_one: &[u8], class_two: &[u8], room: usize) -> Lent
-    ensures { λ r. ⌜ r ≡ lentEncode (now («class_one» .entry)) (now («class_two» .entry)) room ⌝ }
-{
-    let symbols = first(only_bits(class_one), only_bits(class_two));
-    let later = first(exact(82, class_two.len()), first(exact(260, room), symbols));
-    first(exact(77, class_one.len()), later)
-}
 
 // Writes the protected bits of class one.
 fn encode_class_one(class_one: &[u8], protected: &mut [u8])
@@ -51,8 +41,8 @@ fn fill_frame(class_one: &[u8], class_two: &[u8], frame: &mut [u8])
 pub fn encode(class_one: &[u8], class_two: &[u8], frame: &mut [u8]) -> Wrote
     ensures { λ r. ⌜ Encoding (now («class_one» .entry)) (now («class_two» .entry)) (now (frame .entry)) (now (frame .exit)) r ⌝ }
 {
-    let ready = lent_encode(class_one, class_two, frame.len());
-    if let Lent::Refused(why) = ready {
+    let ready = two_and_room(77, class_one, 82, class_two, 260, frame.len());
+    if let Arguments::Refused(why) = ready {
         return Wrote::Refused(why);
     }
     fill_frame(class_one, class_two, frame);

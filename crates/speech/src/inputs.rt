@@ -7,10 +7,9 @@ ghost use mathlib.Core.Bool.{Bool, true};
 ghost use mathlib.Core.List.{[], List};
 ghost use mathlib.Core.Path.{_≡_};
 ghost use lib.ListN.{length, replicate};
-ghost use Rattle.bits.specs.Bits.{allBinary, bits, bytes};
+ghost use Rattle.bits.specs.Bits.{allBelow, allBinary, bits, bytes};
 ghost use Rattle.checksums.specs.Checksums.{checksum7Of};
 ghost use Rattle.speech.specs.Inputs.{bitsAt, inputsOf, inputsWith, parityPlaces, significantPlaces};
-ghost use Rattle.speech.specs.Runs.{allBelow};
 
 // 2.1.3.3.3.3, the highest coefficient first.
 const SIGNIFICANT: [usize; 12] = [80, 4, 79, 5, 78, 6, 77, 7, 76, 8, 75, 9];
@@ -19,7 +18,7 @@ const PARITY: [usize; 7] = [0, 83, 1, 82, 2, 81, 3];
 
 // Writes the bits at some places.
 fn gather(places: &[usize], inputs: &[u8], out: &mut [u8])
-    requires { ⌜ (length (now out) ≡ length (now places)) × (allBinary (now inputs) ≡ true) × (allBelow (now places) (length (now inputs)) ≡ true) ⌝ }
+    requires { ⌜ (length (now out) ≡ length (now places)) × (allBinary (now inputs) ≡ true) × (allBelow (length (now inputs)) (now places) ≡ true) ⌝ }
     ensures { λ _. ⌜ now (out .exit) ≡ bytes (bitsAt (now (places .entry)) (bits (now (inputs .entry)))) ⌝ }
 {
     for i in 0..places.len() {

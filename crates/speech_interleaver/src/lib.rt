@@ -1,8 +1,8 @@
 // The slot order of VSELP (IS-54-B 2.1.3.3.4). The contracts cite specs/.
 // Ported from 136-bts, speech.rs, and changed (see NOTICE).
-use bits::Lent;
 use bits::Wrote;
-use interleaving::lent_two;
+use bits::arguments::Arguments;
+use bits::arguments::two_and_room;
 ghost use mathlib.Core.Path.{_≡_};
 ghost use Prim.Native.Nat.{_/_, _%_, _<_};
 ghost use lib.ListN.{getD, length};
@@ -59,8 +59,8 @@ fn collect(first: &[u8], second: &[u8], frame: &mut [u8])
 pub fn interleave(previous: &[u8], current: &[u8], slot: &mut [u8]) -> Wrote
     ensures { λ r. ⌜ Interleaving (now (previous .entry)) (now (current .entry)) (now (slot .entry)) (now (slot .exit)) r ⌝ }
 {
-    let ready = lent_two(previous, current, slot.len());
-    if let Lent::Refused(why) = ready {
+    let ready = two_and_room(260, previous, 260, current, 260, slot.len());
+    if let Arguments::Refused(why) = ready {
         return Wrote::Refused(why);
     }
     carry(previous, current, slot);
@@ -71,8 +71,8 @@ pub fn interleave(previous: &[u8], current: &[u8], slot: &mut [u8]) -> Wrote
 pub fn deinterleave(first: &[u8], second: &[u8], frame: &mut [u8]) -> Wrote
     ensures { λ r. ⌜ Deinterleaving (now (first .entry)) (now (second .entry)) (now (frame .entry)) (now (frame .exit)) r ⌝ }
 {
-    let ready = lent_two(first, second, frame.len());
-    if let Lent::Refused(why) = ready {
+    let ready = two_and_room(260, first, 260, second, 260, frame.len());
+    if let Arguments::Refused(why) = ready {
         return Wrote::Refused(why);
     }
     collect(first, second, frame);

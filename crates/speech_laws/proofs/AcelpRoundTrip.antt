@@ -8,12 +8,12 @@ use lib.ListN.{length, getD, take, drop, length-map, length-append, length-drop,
 use lib.Seq.{take-at, drop-at}
 use Rattle.bits.specs.Bits.{bit, bits, bytes, byte, allBinary, disagreements}
 use Rattle.bits.specs.Places.{placeIn}
-use Rattle.bits.specs.Refusals.{Answer, accepted, firstOf}
-use Rattle.bits.specs.declared.Lent.the-variants.{Fine}
+use Rattle.bits.specs.Refusals.{Answer, accepted}
+use Rattle.bits.specs.declared.arguments.Arguments.the-variants.{Passed}
 use Rattle.bits.specs.declared.Wrote.{Wrote}
 use Rattle.bits.proofs.Binary.{bits-bytes, bytes-bits, binary-bytes}
 use Rattle.bits.proofs.Listed.{length-listed, taken-back}
-use Rattle.bits.proofs.Refusing.{exact-fine, binary-fine}
+use Rattle.bits.proofs.Refusing.{room-passed}
 use Rattle.bits.proofs.Tally.{disagreements-self, disagreements-none}
 use Rattle.coding.specs.Codes.{coded, acelp}
 use Rattle.coding.specs.Registers.{memoryLow}
@@ -21,11 +21,11 @@ use Rattle.trellis.specs.Search.{Nearest, Ambiguous}
 use Rattle.trellis.specs.Words.{Terminated}
 use Rattle.puncturing.specs.Punctured.{sentOf, weight}
 use Rattle.puncturing.proofs.OneWord.{sent-once}
-use Rattle.acelp_cc1.specs.Calls.{Told, Encoding, Decoding, Settled, lentEncode, lentDecode, sound}
+use Rattle.acelp_cc1.specs.Calls.{Told, Encoding, Decoding, Settled, encodeArguments, decodeArguments, inputsValid}
 use Rattle.acelp_cc1.specs.Frames.{speechOrder, ordered, unordered, inputsOf, classOneOf, orderedFrame, frameOf}
 use Rattle.acelp_cc1.proofs.Inputs.{inputs-length}
 use Rattle.acelp_cc1.proofs.Framing.{protected-length}
-use Rattle.acelp_cc1.proofs.OwnInputs.{class-one-own, sound-own, own}
+use Rattle.acelp_cc1.proofs.OwnInputs.{class-one-own, valid-own, own}
 use Rattle.acelp_cc1.proofs.Placing.{speech-place-below, speech-at-place}
 
 ordered-length : (speech : List Bool) → length (ordered false speech) ≡ 148
@@ -81,13 +81,6 @@ module _ (order : List Bool) (size : length order ≡ 148) where
   clear a = a .distinct (nearest-own (a .one) (a .one-nearest) ∙ sym (nearest-own (a .other) (a .other-nearest)))
 
 -- ---- the calls
-fine-encode : (speech : List ℕ) (room : ℕ) → length speech ≡ 148 → allBinary speech ≡ true → room ≡ 260 → lentEncode speech room ≡ Fine
-fine-encode speech room size b e = ap₂ firstOf (exact-fine 148 (length speech) size) (ap₂ firstOf (exact-fine 260 room e) (binary-fine speech b))
-
-fine-decode : (w : List Bool) (room : ℕ) → length w ≡ 260 → room ≡ 148 → lentDecode (bytes w) room ≡ Fine
-fine-decode w room size e =
-    ap₂ firstOf (exact-fine 260 (length (bytes w)) (length-map w byte ∙ size)) (ap₂ firstOf (exact-fine 148 room e) (binary-fine (bytes w) (binary-bytes w)))
-
 -- a frame's own bits
 pub own-bits : (speech : List Bool) (speech₀ speech′ : List ℕ) (answer : Answer Told) → length speech ≡ 148 → length speech₀ ≡ 148
     → Decoding (bytes (frameOf speech)) speech₀ speech′ answer → (answer ≡ accepted (record { valid = true; corrected = 0 })) × (speech′ ≡ bytes speech)
@@ -98,13 +91,13 @@ own-bits speech speech₀ speech′ answer size room d =
     let sent : bits (bytes (orderedFrame order)) ≡ orderedFrame order = bits-bytes (orderedFrame order) in
     let received : take 208 (bits (bytes (orderedFrame order))) ≡ protected order many = ap (take 208) sent ∙ front order many in
     let s : Settled (bytes (orderedFrame order)) speech′ answer =
-    d .settled (fine-decode (orderedFrame order) (length speech₀) (ordered-frame-length order many) room)
+    d .settled (room-passed 260 (bytes (orderedFrame order)) 148 (length speech₀) (length-map (orderedFrame order) byte ∙ ordered-frame-length order many) room (binary-bytes (orderedFrame order)))
     (λ a. clear order many (subst (λ (u : List Bool). Ambiguous (Terminated 108) (weight u)) received a)) in
     let nearest : Nearest (Terminated 108) (weight (protected order many)) (s .word) =
     subst (λ (u : List Bool). Nearest (Terminated 108) (weight u) (s .word)) received (s .nearest) in
     let same : s .word ≡ reverse (inputsOf order) = nearest-own order many (s .word) nearest in
     let inputs : reverse (s .word) ≡ inputsOf order = ap reverse same ∙ reverse-reverse (inputsOf order) in
-    let valid : sound (reverse (s .word)) ≡ true = ap sound inputs ∙ sound-own order many in
+    let valid : inputsValid (reverse (s .word)) ≡ true = ap inputsValid inputs ∙ valid-own order many in
     let corrected : weight (take 208 (bits (bytes (orderedFrame order)))) (s .word) ≡ 0 = ap₂ weight received same ∙ own-weight order many in (
       s .told ∙ ap₂ (λ (v : Bool) (n : ℕ). accepted (record { valid = v; corrected = n })) valid corrected,
       s .written ∙ ap₂ (λ (u f : List Bool). bytes (unordered false (classOneOf u ++ drop 208 f))) inputs sent
@@ -116,6 +109,6 @@ pub round-trip : (speech frame₀ frame speech₀ speech′ : List ℕ) (r : Wro
     → Encoding speech frame₀ frame r → Decoding frame speech₀ speech′ answer
     → (answer ≡ accepted (record { valid = true; corrected = 0 })) × (speech′ ≡ speech)
 round-trip speech frame₀ frame speech₀ speech′ r answer size b room room′ e d =
-    let written : frame ≡ bytes (frameOf (bits speech)) = e .done (fine-encode speech (length frame₀) size b room) .1 in
+    let written : frame ≡ bytes (frameOf (bits speech)) = e .done (room-passed 148 speech 260 (length frame₀) size room b) .1 in
     let back = own-bits (bits speech) speech₀ speech′ answer (length-map speech bit ∙ size) room′ (subst (λ (l : List ℕ). Decoding l speech₀ speech′ answer) written d) in
     (back .0, back .1 ∙ bytes-bits speech b)

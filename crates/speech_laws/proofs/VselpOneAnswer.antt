@@ -6,14 +6,14 @@ use Prim.Native.Nat.{ℕ}
 use lib.ListN.{length}
 use Rattle.bits.specs.Bits.{bytes}
 use Rattle.bits.specs.Refusals.{Answer, accepted, refused}
-use Rattle.bits.specs.declared.Lent.{Lent}
-use Rattle.bits.specs.declared.Lent.the-variants.{Fine, Refused}
+use Rattle.bits.specs.declared.arguments.Arguments.{Arguments}
+use Rattle.bits.specs.declared.arguments.Arguments.the-variants.{Passed, Refused}
 use Rattle.bits.specs.declared.Refusal.the-variants as refusal
 use Rattle.trellis.specs.Search.{Ambiguous}
 use Rattle.trellis.specs.Words.{Terminated}
 use Rattle.trellis.proofs.OneOutcome.{bytes-same-or-not, is-ambiguous, one-nearest, one-outcome}
 use Rattle.speech.specs.Inputs.{classOneOf}
-use Rattle.speech.specs.Calls.{Told, Settled, Decoding, lentDecode, frameWeight, statusOf}
+use Rattle.speech.specs.Calls.{Told, Settled, Decoding, decodeArguments, frameWeight, statusOf}
 
 -- an answer, and the bits of both classes
 abbrev Outcome : Type 0
@@ -43,18 +43,18 @@ module _ {frame : List ℕ} where
       cc
 
 module _ {frame one₀ two₀ one two one′ two′ : List ℕ} {a b : Answer Told} (p : Decoding frame one₀ two₀ one two a) (q : Decoding frame one₀ two₀ one′ two′ b) where
-  one-fine : lentDecode frame (length one₀) (length two₀) ≡ Fine → _≡_ {A = Outcome} (a, one, two) (b, one′, two′)
-  one-fine fine =
+  one-passed : decodeArguments frame (length one₀) (length two₀) ≡ Passed → _≡_ {A = Outcome} (a, one, two) (b, one′, two′)
+  one-passed passed =
       one-outcome (λ (x : Outcome). Settled frame (x .1) (x .2) (x .0)) (refused refusal.Ambiguous, one₀, two₀) (same-or-not a one two one₀ two₀) (same-or-not b one′ two′ one₀ two₀) one-settled
-      (λ u. left (p .unclear fine u)) (p .settled fine) (λ u. left (q .unclear fine u)) (q .settled fine)
+      (λ u. left (p .unclear passed u)) (p .settled passed) (λ u. left (q .unclear passed u)) (q .settled passed)
     where
       left : {one two : List ℕ} {a : Answer Told} → (a ≡ refused refusal.Ambiguous) × (one ≡ one₀) × (two ≡ two₀)
           → _≡_ {A = Outcome} (a, one, two) (refused refusal.Ambiguous, one₀, two₀)
       left (e, f, g) = cc
 
   pub one-answer : (a ≡ b) × (one ≡ one′) × (two ≡ two′)
-  one-answer = go (lentDecode frame (length one₀) (length two₀)) refl
+  one-answer = go (decodeArguments frame (length one₀) (length two₀)) refl
     where
-      go : (l : Lent) → lentDecode frame (length one₀) (length two₀) ≡ l → (a ≡ b) × (one ≡ one′) × (two ≡ two′)
-      go Fine e = (ap (λ (x : Outcome). x .0) (one-fine e), ap (λ (x : Outcome). x .1) (one-fine e), ap (λ (x : Outcome). x .2) (one-fine e))
+      go : (l : Arguments) → decodeArguments frame (length one₀) (length two₀) ≡ l → (a ≡ b) × (one ≡ one′) × (two ≡ two′)
+      go Passed e = (ap (λ (x : Outcome). x .0) (one-passed e), ap (λ (x : Outcome). x .1) (one-passed e), ap (λ (x : Outcome). x .2) (one-passed e))
       go (Refused why) e = let s = p .declined why e in let t = q .declined why e in (s .0 ∙ sym (t .0), s .1 ∙ sym (t .1), s .2 ∙ sym (t .2))

@@ -9,13 +9,14 @@ use lib.ListN.{length, length-map, length-reverse}
 use borrow.Author.Tests.{eq-eqb}
 use Rattle.bits.specs.Bits.{bit, byte, bits, bytes, disagreements}
 use Rattle.bits.specs.Numbers.{packed, unpacked}
-use Rattle.bits.specs.Refusals.{Answer, accepted, firstOf}
-use Rattle.bits.specs.declared.Lent.the-variants.{Fine}
+use Rattle.bits.specs.Refusals.{Answer, accepted}
+use Rattle.bits.specs.Arguments.{firstRefusal}
+use Rattle.bits.specs.declared.arguments.Arguments.the-variants.{Passed}
 use Rattle.bits.specs.declared.Wrote.{Wrote}
 use Rattle.bits.proofs.Binary.{bits-bytes, bytes-bits, binary-bytes}
 use Rattle.bits.proofs.Listed.{length-listed}
 use Rattle.bits.proofs.Packed.{unpacked-length}
-use Rattle.bits.proofs.Refusing.{exact-fine, binary-fine}
+use Rattle.bits.proofs.Refusing.{exact-passed, binary-passed}
 use Rattle.bits.proofs.Tally.{disagreements-self, disagreements-none}
 use Rattle.checksums.specs.Checksums.{checksum7Of}
 use Rattle.coding.specs.Codes.{coded, dcch}
@@ -28,10 +29,10 @@ use Rattle.viterbi.specs.Hard.{weight, weightFrom}
 use Rattle.speech.specs.Inputs.{bitsAt, parityPlaces, parityOf, inputsWith, inputsOf, classOneOf}
 use Rattle.speech.specs.Turns.{placed, protectedOf, isClassTwo}
 use Rattle.speech.specs.Frames.{frameOf}
-use Rattle.speech.specs.Calls.{Told, Settled, Decoding, Encoding, lentEncode, lentDecode, frameWeight, statusOf}
+use Rattle.speech.specs.Calls.{Told, Settled, Decoding, Encoding, encodeArguments, decodeArguments, frameWeight, statusOf}
 use Rattle.speech.specs.declared.CrcStatus.{CrcStatus}
 use Rattle.speech.specs.declared.CrcStatus.the-variants.{Valid}
-use Rattle.speech.proofs.Answering.{encode-fine}
+use Rattle.bits.proofs.Refusing.{passed-two}
 use Rattle.speech.proofs.InputBits.{inputs-length}
 use Rattle.speech_laws.proofs.VselpPlaces.{inputs-end, inputs-one, inputs-parity, inputs-significant, placed-two, placed-protected}
 use Rattle.speech.proofs.Settling.{map-taken}
@@ -99,12 +100,12 @@ module _ (one two : List Bool) (size : length one ≡ 77) where
   unfolding inputsOf
   own-one = inputs-one one _ size
 
-  fine : (n m : ℕ) → n ≡ 77 → m ≡ 82 → lentDecode (bytes (frameOf one two)) n m ≡ Fine
+  passed : (n m : ℕ) → n ≡ 77 → m ≡ 82 → decodeArguments (bytes (frameOf one two)) n m ≡ Passed
   unfolding frameOf
-  fine n m en em =
+  passed n m en em =
       let frame : List ℕ = bytes (frameOf one two) in
-      ap₂ firstOf (exact-fine 260 (length frame) (length-map (frameOf one two) byte ∙ placed-length _ two))
-      (ap₂ firstOf (exact-fine 77 n en) (ap₂ firstOf (exact-fine 82 m em) (binary-fine frame (binary-bytes (frameOf one two)))))
+      ap₂ firstRefusal (exact-passed 260 (length frame) (length-map (frameOf one two) byte ∙ placed-length _ two))
+      (ap₂ firstRefusal (exact-passed 77 n en) (ap₂ firstRefusal (exact-passed 82 m em) (binary-passed frame (binary-bytes (frameOf one two)))))
 
   -- of the frame of speech bits
   pub round-trip : length two ≡ 82 → {one₀ two₀ one′ two′ : List ℕ} {answer : Answer Told} → length one₀ ≡ 77 → length two₀ ≡ 82
@@ -112,7 +113,7 @@ module _ (one two : List Bool) (size : length one ≡ 77) where
       → (answer ≡ accepted (record { crc = Valid; corrected = 0 })) × (one′ ≡ bytes one) × (two′ ≡ bytes two)
   unfolding frameOf sent
   round-trip twos {one₀} {two₀} {one′} {two′} {answer} room-one room-two d =
-      let s : Settled (bytes (frameOf one two)) one′ two′ answer = d .settled (fine (length one₀) (length two₀) room-one room-two) alone in
+      let s : Settled (bytes (frameOf one two)) one′ two′ answer = d .settled (passed (length one₀) (length two₀) room-one room-two) alone in
       let w = only-own (s .word) (s .nearest) in (
         s .told ∙ ap accepted (ap₂ (λ (c : CrcStatus) (n : ℕ). record { crc = c; corrected = n }) (ap statusOf (w .1) ∙ valid-own) (w .0)),
         s .one ∙ ap bytes (ap classOneOf (w .1) ∙ own-one),
@@ -120,11 +121,11 @@ module _ (one two : List Bool) (size : length one ≡ 77) where
       )
 
 -- ---- what `encode` writes, `decode_candidate` reads
-pub encoded-back : (one two : List ℕ) {frame₀ frame one₀ two₀ one′ two′ : List ℕ} (r : Wrote) {answer : Answer Told} → lentEncode one two (length frame₀) ≡ Fine
+pub encoded-back : (one two : List ℕ) {frame₀ frame one₀ two₀ one′ two′ : List ℕ} (r : Wrote) {answer : Answer Told} → encodeArguments one two (length frame₀) ≡ Passed
     → length one₀ ≡ 77 → length two₀ ≡ 82 → Encoding one two frame₀ frame r → Decoding frame one₀ two₀ one′ two′ answer
     → (answer ≡ accepted (record { crc = Valid; corrected = 0 })) × (one′ ≡ one) × (two′ ≡ two)
 encoded-back one two {frame₀} {frame} {one₀} {two₀} {one′} {two′} r {answer} fits room-one room-two e d =
-    let t = encode-fine one two (length frame₀) refl fits in
+    let t = passed-two 77 one 82 two 260 (length frame₀) refl fits in
     let b = round-trip (bits one) (bits two) (length-map one bit ∙ t .0 .0) (length-map two bit ∙ t .0 .1) room-one room-two
     (subst (λ (l : List ℕ). Decoding l one₀ two₀ one′ two′ answer) (e .done fits .1) d) in
     (b .0, b .1 ∙ bytes-bits one (t .1 .0), b .2 ∙ bytes-bits two (t .1 .1))

@@ -20,8 +20,9 @@ use Rattle.trellis.proofs.Registers.{register-low}
 use Rattle.trellis.proofs.Searching.{found-to}
 use Rattle.tailbiting.specs.Rows.{costAt, RowsTo, NumbersTo}
 use Rattle.tailbiting.specs.Starts.{endOf, tailMetric}
-use Rattle.tailbiting.specs.TailBiting.{erasedDiffer, tailWeight}
-use Rattle.tailbiting.proofs.Erasable.{erased-le}
+use Rattle.tailbiting.specs.TailBiting.{tailWeight}
+use Rattle.bits.specs.Observed.{erasedDiffer}
+use Rattle.bits.proofs.Erased.{erased-le}
 use Rattle.tailbiting.proofs.Turns.{end-below, leads-end}
 
 -- ---- one place

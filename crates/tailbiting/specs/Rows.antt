@@ -4,7 +4,7 @@ use mathlib.Core.List.{List, []}
 use Prim.Native.Nat.{ℕ, _+_, _*_, _<_}
 use lib.ListN.{getD}
 use Rattle.search.specs.Row.{outputAt}
-use Rattle.tailbiting.specs.TailBiting.{erasedDiffer}
+use Rattle.bits.specs.Observed.{erasedDiffer}
 
 -- the branch metric of a place against four received bytes
 abbrev pub costAt : ℕ → ℕ → ℕ → ℕ → ℕ → ℕ

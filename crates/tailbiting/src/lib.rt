@@ -10,7 +10,8 @@ ghost use mathlib.Core.Path.{_≡_};
 ghost use lib.ListN.{length};
 ghost use Rattle.trellis.specs.Search.{Found};
 ghost use Rattle.trellis.specs.Words.{OfLength};
-ghost use Rattle.tailbiting.specs.TailBiting.{allErasable, tailWeight};
+ghost use Rattle.tailbiting.specs.TailBiting.{tailWeight};
+ghost use Rattle.bits.specs.Observed.{allErasable};
 
 // Writes a nearest run of 65 inputs that ends in the memory where it starts, over the observed bits; a byte 2 is unobserved.
 pub fn tail_biting(received: &[u8], inputs: &mut [u8]) -> Outcome

@@ -1,6 +1,6 @@
 // Ported from 136-bts, facch.rs, and changed (see NOTICE).
 // The branch metrics of the FACCH code against received bits, some of them unobserved.
-use bits::differs;
+use bits::observed::erased_differs;
 use search::row::outputs;
 ghost use mathlib.Core.Bool.{true};
 ghost use mathlib.Core.Path.{_≡_};
@@ -9,7 +9,7 @@ ghost use lib.ListN.{length};
 ghost use Rattle.bits.specs.Bits.{bit};
 ghost use Rattle.search.specs.Row.{OutputsTo};
 ghost use Rattle.tailbiting.specs.Rows.{CostsTo, NumbersTo, RowsTo};
-ghost use Rattle.tailbiting.specs.TailBiting.{allErasable, erasedDiffer};
+ghost use Rattle.bits.specs.Observed.{allErasable, erasedDiffer};
 
 // The generators of IS-54-B 2.7.3.1.1.4 as the engine numbers its states, the newest input lowest.
 const G0: u8 = 0b111011;
@@ -19,17 +19,6 @@ const G1: u8 = 0b100111;
 const G2: u8 = 0b101111;
 
 const G3: u8 = 0b110101;
-
-// 1 where an observed bit reads otherwise than the coded bit.
-fn erased_differs(sent: u8, received: u8) -> u8
-    requires { ⌜ (sent < 2) × (received < 3) ⌝ }
-    ensures { λ r. ⌜ (r ≡ erasedDiffer (bit sent) received) × (r ≤ 1) ⌝ }
-{
-    if received == 2 {
-        return 0;
-    }
-    differs(sent, received)
-}
 
 // The branch metrics against four received bytes, by place.
 fn step_row(

@@ -1,21 +1,20 @@
 -- A word that was made: its length, its checksum and its message, and its header as bytes. Assumes nothing.
 use mathlib.Core.Path.{_≡_, refl, sym, ap, _∙_}
 use mathlib.Core.Bool.{Bool, true, false}
-use mathlib.Core.List.{List, _∷_, _++_, append-assoc}
+use mathlib.Core.List.{List, [], _∷_, _++_, append-assoc, append-nil}
 use Prim.Native.Nat.{ℕ, _+_, _^_, _<_}
 use native.Mathlib.Omega.{arith}
 use lib.ListN.{length, take, drop, length-append, length-map}
-use lib.Seq.{take-at, drop-at, take-all}
+use lib.Seq.{take-at, drop-at}
 use mir.Val.{boolByte}
-use borrow.Author.Tests.{eq-eqb}
 use Rattle.bits.specs.Bits.{bit, byte, bits, bytes, allBinary}
 use Rattle.bits.specs.Numbers.{packed, unpacked}
-use Rattle.bits.proofs.Binary.{bits-bytes, binary-bytes}
+use Rattle.bits.proofs.Binary.{bits-bytes, binary-bytes, binary-cons}
 use Rattle.bits.proofs.Packed.{packed-unpacked-below, unpacked-length}
-use Rattle.checksums.specs.Checksums.{checksumOf}
+use Rattle.checksums.specs.Checksums.{checksumOf, crcValid}
 use Rattle.checksums.specs.declared.CrcMode.the-variants.{Addressed}
-use Rattle.checksums.proofs.Answers.{checksum-below}
-use Rattle.words.specs.Words.{informationOf, madeOf, sound, messageIn}
+use Rattle.checksums.proofs.Tested.{own-valid}
+use Rattle.words.specs.Words.{informationOf, madeOf, messageIn}
 
 -- ---- a flag as the first byte of a header
 pub flag-bit : (b : Bool) → bit (boolByte b) ≡ b
@@ -23,9 +22,8 @@ flag-bit false = refl
 flag-bit true = refl
 
 pub flag-binary : (b : Bool) (l : List ℕ) → allBinary l ≡ true → allBinary (boolByte b ∷ l) ≡ true
-unfolding allBinary
-flag-binary false l e = e
-flag-binary true l e = e
+flag-binary false l e = binary-cons 0 l (omega arith) ∙ e
+flag-binary true l e = binary-cons 1 l (omega arith) ∙ e
 
 module _ (header : List Bool) (message dvcc : ℕ) where
   abbrev information : List Bool
@@ -42,15 +40,11 @@ module _ (header : List Bool) (message dvcc : ℕ) where
   made-length = omega (arith, length-append information checked, information-length, unpacked-length 16 (checksumOf information dvcc Addressed))
 
   -- its checksum is right
-  pub made-sound : {n : ℕ} → length header + 48 ≡ n → sound n (madeOf header message dvcc) dvcc ≡ true
-  unfolding sound madeOf
-  made-sound {n} e =
-      let size : length information ≡ n = information-length ∙ e in
-      let sent : packed (take 16 (drop n (madeOf header message dvcc))) ≡ checksumOf information dvcc Addressed =
-      ap (λ (l : List Bool). packed (take 16 l)) (drop-at information checked n size)
-      ∙ ap packed (take-all 16 checked (omega (arith, unpacked-length 16 (checksumOf information dvcc Addressed))))
-      ∙ packed-unpacked-below 16 (checksumOf information dvcc Addressed) (checksum-below information dvcc Addressed) in
-      eq-eqb _ _ (sent ∙ ap (λ (u : List Bool). checksumOf u dvcc Addressed) (sym (take-at information checked n size)))
+  pub made-valid : {n : ℕ} → length header + 48 ≡ n → crcValid n (madeOf header message dvcc) dvcc Addressed ≡ true
+  unfolding madeOf
+  made-valid {n} e =
+      ap (λ (l : List Bool). crcValid n (information ++ l) dvcc Addressed) (sym (append-nil checked))
+      ∙ own-valid information [] dvcc Addressed (sym e ∙ sym information-length)
 
   -- and the message is in it
   pub made-message : {h : ℕ} → length header ≡ h → message < 2 ^ 48 → messageIn h (madeOf header message dvcc) ≡ message

@@ -3,7 +3,6 @@
 use mathlib.Core.Bool.{Bool}
 use mathlib.Core.List.{List, _++_}
 use Prim.Native.Nat.{ℕ}
-use lib.Dec.{eqb}
 use lib.ListN.{take, drop}
 use Rattle.bits.specs.Numbers.{packed, unpacked}
 use Rattle.checksums.specs.Checksums.{checksumOf}
@@ -17,10 +16,6 @@ informationOf header message = header ++ unpacked 48 message
 unfoldable pub madeOf : List Bool → ℕ → ℕ → List Bool
 madeOf header message dvcc =
     informationOf header message ++ unpacked 16 (checksumOf (informationOf header message) dvcc Addressed)
-
--- whether the checksum in a word is that of its first n bits, after which it stands
-unfoldable pub sound : ℕ → List Bool → ℕ → Bool
-sound n w dvcc = eqb (packed (take 16 (drop n w))) (checksumOf (take n w) dvcc Addressed)
 
 -- the message after a header of h bits, as a number with its first bit highest
 abbrev pub messageIn : ℕ → List Bool → ℕ

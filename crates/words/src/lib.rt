@@ -9,7 +9,10 @@ ghost use mathlib.Core.Path.{_≡_};
 ghost use Prim.Native.Nat.{_+_, _≤_};
 ghost use lib.ListN.{length, take};
 ghost use Rattle.bits.specs.Bits.{allBinary, bits, bytes};
-ghost use Rattle.words.specs.Words.{madeOf, messageIn, sound};
+ghost use Rattle.words.specs.Words.{madeOf, messageIn};
+
+// Messages have 48 bits.
+pub const MESSAGES: u64 = 0x1000000000000;
 
 // Writes the message and the checksum after a header of so many bits.
 pub fn complete(header: usize, message: u64, dvcc: u8, word: &mut [u8])
@@ -20,16 +23,6 @@ pub fn complete(header: usize, message: u64, dvcc: u8, word: &mut [u8])
     unpack(message, &mut word[header..end]);
     let checksum = checksum_of_bits(&word[..end], dvcc, CrcMode::Addressed);
     unpack(checksum as u64, &mut word[end..end + 16]);
-}
-
-// Whether the checksum in a word is that of so many bits before it.
-pub fn is_sound(information: usize, word: &[u8], dvcc: u8) -> bool
-    requires { ⌜ (length (now word) ≡ information + 16) × (allBinary (now word) ≡ true) ⌝ }
-    ensures { λ r. ⌜ r ≡ sound information (bits (now (word .entry))) dvcc ⌝ }
-{
-    let received = pack(&word[information..information + 16]);
-    let checksum = checksum_of_bits(&word[..information], dvcc, CrcMode::Addressed);
-    received == checksum as u64
 }
 
 // The message after a header of so many bits.

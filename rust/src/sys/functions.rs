@@ -50,7 +50,7 @@ unsafe extern "C" {
         broadcast: bool,
         block: *mut u8,
         block_len: usize,
-    ) -> Block;
+    ) -> Written;
     /// Codes 101 bits into the 244 of a normal reverse block.
     pub fn bts136_dcch_encode_reverse_normal(
         information: *const u8,
@@ -59,7 +59,7 @@ unsafe extern "C" {
         broadcast: bool,
         block: *mut u8,
         block_len: usize,
-    ) -> Block;
+    ) -> Written;
     /// Codes 79 bits into the 200 of an abbreviated reverse block.
     pub fn bts136_dcch_encode_reverse_abbreviated(
         information: *const u8,
@@ -68,7 +68,7 @@ unsafe extern "C" {
         broadcast: bool,
         block: *mut u8,
         block_len: usize,
-    ) -> Block;
+    ) -> Written;
     /// Decodes the 260 bits of a forward block into 109.
     pub fn bts136_dcch_decode_forward(
         block: *const u8,

@@ -52,7 +52,7 @@ pub struct Block {
     pub expected: usize,
     /// With number 1, the length that came.
     pub actual: usize,
-    /// Corrected coded bits, at most the length of the block; 0 for an encoder.
+    /// Corrected coded bits, at most the length of the block.
     pub corrected: u16,
 }
 

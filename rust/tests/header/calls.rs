@@ -20,7 +20,7 @@ const RELIABILITIES: &str = "for (size_t n = 0; n < 260; n++) soft[n] = more[n] 
 type Stepped = fn(u8, u8) -> Step;
 type OneToOne = fn(&[u8], &mut [u8]) -> Written;
 type TwoToOne = fn(&[u8], &[u8], &mut [u8]) -> Written;
-type Blocks<T> = fn(&[T], u8, bool, &mut [u8]) -> Block;
+type Blocks<T, A> = fn(&[T], u8, bool, &mut [u8]) -> A;
 
 fn bits(length: usize) -> Vec<u8> {
     let bit = |place: usize| u8::from(place * place % 7 == 2);
@@ -76,9 +76,9 @@ struct Format {
     name: &'static str,
     length: usize,
     room: usize,
-    encode: Blocks<u8>,
-    decode: Blocks<u8>,
-    soft: Blocks<f64>,
+    encode: Blocks<u8, Written>,
+    decode: Blocks<u8, Block>,
+    soft: Blocks<f64, Block>,
 }
 
 const FORMATS: [Format; 3] = [

@@ -1,6 +1,6 @@
 -- `flat_coding::facch_transition` meets its contract: a refusal, or the step. Assumes nothing.
 use mathlib.Core.Path.{sym, _∙_}
-use Rattle.flat_coding.proofs.Steps.{fine-step, by-refusal, by-step, four-outputs}
+use Rattle.flat_coding.proofs.Steps.{passed-step, by-refusal, by-step, four-outputs}
 use borrow.Author.Needs.{needs}
 use Rattle.flat_coding.proofs.facch_transition.Statement.{statement}
 use Rattle.flat_coding.proofs.facch_transition.Tie as tie
@@ -21,7 +21,7 @@ enum-told : tie.Need-enum-told
 enum-told c = search needs
 
 transition-requires : tie.Need-transition-requires
-transition-requires c κs = fine-step _ _ (sym (c .before .before .step-refusal .ensures) ∙ c .enum-told .given .1)
+transition-requires c κs = passed-step _ _ (sym (c .before .before .step-refusal .ensures) ∙ c .enum-told .given .1)
 
 returns-2 : tie.Need-returns-2
 returns-2 c = by-step (c .before .before .before .before .step-refusal .ensures) (c .before .before .enum-told .given .1) (four-outputs (c .before .transition .ensures))

@@ -11,8 +11,8 @@ mode-of-requires c κs = search needs
 encode-requires : tie.Need-encode-requires
 encode-requires c κs = search needs
 
-flat-encoded-requires : tie.Need-flat-encoded-requires
-flat-encoded-requires c κs = search needs
+flat-wrote-requires : tie.Need-flat-wrote-requires
+flat-wrote-requires c κs = search needs
 
 same-length : tie.Need-same-length
 same-length c = search needs
@@ -20,8 +20,8 @@ same-length c = search needs
 returns : tie.Need-returns
 returns c =
     let entry = c .before .before .before .before .before .before .before .before .args in
-    encoded-flat (λ m. Encoding (entry .format) (entry .information .now) (entry .dvcc) m (entry .block .now) (c .before .before .before .encode .last .1 .1 .1 .1 .0)) (c .before .before .before .encode .result) (c .before .before .before .before .before .mode-of .ensures) (c .before .before .before .encode .ensures) (c .flat-encoded .ensures)
+    encoded-flat (λ m. Encoding (entry .format) (entry .information .now) (entry .dvcc) m (entry .block .now) (c .before .before .before .encode .last .1 .1 .1 .1 .0)) (c .before .before .before .encode .result) (c .before .before .before .before .before .mode-of .ensures) (c .before .before .before .encode .ensures) (c .flat-wrote .ensures)
 
 pub encode-spec : {M : Type 1} → statement M
 encode-spec =
-    tie.close (tie.spec mode-of-requires encode-requires flat-encoded-requires same-length returns)
+    tie.close (tie.spec mode-of-requires encode-requires flat-wrote-requires same-length returns)

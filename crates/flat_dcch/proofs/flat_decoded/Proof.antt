@@ -1,6 +1,5 @@
 -- `flat_dcch::flat_decoded` meets its contract, by the cases of the answer. Assumes nothing.
 use mathlib.Core.Path.{sym, ap, _∙_}
-use Rattle.flat_dcch.proofs.Carried.{refused-block}
 use Rattle.dcch.specs.Blocks.{decodeAnswer}
 use Rattle.flat_dcch.specs.Blocks.{flatCorrected}
 use borrow.Author.Needs.{needs}
@@ -13,30 +12,14 @@ enum-known-answer c = search needs
 enum-known-answer-2 : tie.Need-enum-known-answer-2
 enum-known-answer-2 c = search needs
 
-number-requires : tie.Need-number-requires
-number-requires c κs = search needs
-
-expected-requires : tie.Need-expected-requires
-expected-requires c κs = search needs
-
-actual-requires : tie.Need-actual-requires
-actual-requires c κs = search needs
+no-block-requires : tie.Need-no-block-requires
+no-block-requires c κs = search needs
 
 returns : tie.Need-returns
 returns c = sym (ap (λ x. flatCorrected (decodeAnswer x)) (c .before .answer .given .1))
 
 returns-2 : tie.Need-returns-2
-returns-2 c =
-    refused-block (c .before .before .before .before .answer2 .given .0 .0) _ _ _ (c .before .before .number .ensures) (c .before .expected .ensures) (c .actual .ensures) ∙ sym (ap (λ x. flatCorrected (decodeAnswer x)) (c .before .before .before .before .answer2 .given .1))
+returns-2 c = c .no-block .ensures ∙ sym (ap (λ x. flatCorrected (decodeAnswer x)) (c .before .before .answer2 .given .1))
 
 pub flat-decoded-spec : {M : Type 1} → statement M
-flat-decoded-spec =
-    tie.close
-    (tie.spec
-    enum-known-answer
-    enum-known-answer-2
-    number-requires
-    expected-requires
-    actual-requires
-    returns
-    returns-2)
+flat-decoded-spec = tie.close (tie.spec enum-known-answer enum-known-answer-2 no-block-requires returns returns-2)

@@ -5,8 +5,8 @@ use borrow.Author.Needs.{needs}
 use Rattle.sacch_decoder.proofs.finish.Statement.{statement}
 use Rattle.sacch_decoder.proofs.finish.Tie as tie
 
-is-sound-requires : tie.Need-is-sound-requires
-is-sound-requires c κs = search needs
+crc-valid-requires : tie.Need-crc-valid-requires
+crc-valid-requires c κs = search needs
 
 content-requires : tie.Need-content-requires
 content-requires c κs = search needs
@@ -18,13 +18,13 @@ verdict-requires : tie.Need-verdict-requires
 verdict-requires c κs = search needs
 
 returns : tie.Need-returns
-returns c = c .verdict .ensures ∙ finished-is _ (c .before .before .before .before .before .pre .1) (c .before .before .before .before .before .args .found .tie) _ _ (c .before .before .before .is-sound .ensures) (c .before .before .content .ensures)
+returns c = c .verdict .ensures ∙ finished-is _ (c .before .before .before .before .before .pre .1) (c .before .before .before .before .before .args .found .tie) _ _ (c .before .before .before .crc-valid .ensures) (c .before .before .content .ensures)
 
 pub finish-spec : {M : Type 1} → statement M
 finish-spec =
     tie.close
     (tie.spec
-    is-sound-requires
+    crc-valid-requires
     content-requires
     shared-slice-read-verdict
     verdict-requires

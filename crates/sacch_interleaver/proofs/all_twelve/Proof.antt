@@ -5,7 +5,7 @@ use native.Mathlib.Omega.{arith}
 use lib.ListN.{length}
 use Rattle.bits.proofs.Passing.{Testing, testing-none, testing-more, testing-done}
 use Rattle.sacch_interleaver.specs.Diagonal.{allTwelve}
-use Rattle.sacch_interleaver.proofs.Twelve.{twelve-tests}
+use Rattle.bits.proofs.Below.{below-tests}
 use borrow.Author.Needs.{needs}
 use Rattle.sacch_interleaver.proofs.all_twelve.Statement.{statement}
 use Rattle.sacch_interleaver.proofs.all_twelve.Tie as tie
@@ -35,10 +35,10 @@ loop-less : tie.Need-loop-less Inv-loop μ-loop
 loop-less c = search needs
 
 loop-again : tie.Need-loop-again Inv-loop μ-loop
-loop-again c = (refl, testing-more twelve-tests (c .before .before .before .loop .inv .1) 0 (omega arith) refl (c .both .ensures))
+loop-again c = (refl, testing-more (below-tests 4096) (c .before .before .before .loop .inv .1) 0 (omega arith) refl (c .both .ensures))
 
 returns : tie.Need-returns Inv-loop μ-loop
-returns c = testing-done twelve-tests (c .before .loop .inv .1) (omega arith)
+returns c = testing-done (below-tests 4096) (c .before .loop .inv .1) (omega arith)
 
 pub all-twelve-spec : {M : Type 1} → statement M
 all-twelve-spec =

@@ -1,18 +1,18 @@
 -- `speech_interleaver::deinterleave` meets its contract: a refusal, or the frame. Assumes nothing.
 use Rattle.bits.proofs.Writing.{declined-end, done-end}
-use Rattle.interleaving.proofs.Answering.{two-fine}
+use Rattle.bits.proofs.Refusing.{passed-two}
 use borrow.Author.Needs.{needs}
 use Rattle.speech_interleaver.proofs.deinterleave.Statement.{statement}
 use Rattle.speech_interleaver.proofs.deinterleave.Tie as tie
 
-lent-two-requires : tie.Need-lent-two-requires
-lent-two-requires c κs = search needs
+two-and-room-requires : tie.Need-two-and-room-requires
+two-and-room-requires c κs = search needs
 
 enum-known-ready : tie.Need-enum-known-ready
 enum-known-ready c = search needs
 
 returns : tie.Need-returns
-returns c = declined-end (c .before .before .before .lent-two .ensures) _ (c .before .ready .given .1)
+returns c = declined-end (c .before .before .before .two-and-room .ensures) _ (c .before .ready .given .1)
 
 enum-told : tie.Need-enum-told
 enum-told c = search needs
@@ -20,19 +20,19 @@ enum-told c = search needs
 collect-requires : tie.Need-collect-requires
 collect-requires c κs =
     let start = c .before .before .before .before .before .before .before in
-    two-fine (start .args .first .now) (start .args .second .now) _ (c .before .before .before .lent-two .ensures) (c .before .enum-told .given .1)
+    passed-two 260 (start .args .first .now) 260 (start .args .second .now) 260 _ (c .before .before .before .two-and-room .ensures) (c .before .enum-told .given .1) .0
 
 same-length : tie.Need-same-length
 same-length c = search needs
 
 returns-2 : tie.Need-returns-2
-returns-2 c = done-end (c .before .before .before .before .before .before .lent-two .ensures) (c .before .before .before .before .enum-told .given .1) (c .before .before .collect .ensures)
+returns-2 c = done-end (c .before .before .before .before .before .before .two-and-room .ensures) (c .before .before .before .before .enum-told .given .1) (c .before .before .collect .ensures)
 
 pub deinterleave-spec : {M : Type 1} → statement M
 deinterleave-spec =
     tie.close
     (tie.spec
-    lent-two-requires
+    two-and-room-requires
     enum-known-ready
     returns
     enum-told

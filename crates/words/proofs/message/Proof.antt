@@ -1,6 +1,7 @@
 -- `words::message` meets its contract: 48 bits, packed. Assumes nothing.
 use native.Mathlib.Omega.{arith}
-use Rattle.words.proofs.Parts.{asks-pack, message-is}
+use Rattle.bits.proofs.Packed.{asks-pack}
+use Rattle.words.proofs.Parts.{message-is}
 use borrow.Author.Needs.{needs}
 use Rattle.words.proofs.message.Statement.{statement}
 use Rattle.words.proofs.message.Tie as tie

@@ -1,7 +1,7 @@
 -- `acelp_cc1::decoding::received_checksum` meets its contract. Assumes nothing.
 use mathlib.Core.Path.{refl}
 use Rattle.acelp_cc1.proofs.Placing.{asks-gather, parity-apart}
-use Rattle.acelp_cc1.proofs.Restoring.{check-fine, check-value}
+use Rattle.acelp_cc1.proofs.Restoring.{check-passed, check-value}
 use borrow.Author.Needs.{needs}
 use Rattle.acelp_cc1.proofs.decoding.received_checksum.Statement.{statement}
 use Rattle.acelp_cc1.proofs.decoding.received_checksum.Tie as tie
@@ -26,7 +26,7 @@ pack-requires c κs =
     let gathered = c .before .before in
     let positions = gathered .before .before .before in
     let begin = positions .before .before in
-    check-fine (begin .args .inputs .now) (begin .pre .1) (positions .parity-positions .ensures) (gathered .gather .ensures)
+    check-passed (begin .args .inputs .now) (begin .pre .1) (positions .parity-positions .ensures) (gathered .gather .ensures)
 
 returns : tie.Need-returns
 returns c =

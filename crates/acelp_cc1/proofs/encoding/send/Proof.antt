@@ -1,5 +1,5 @@
 -- `acelp_cc1::encoding::send` meets its contract: what the generators send of the inputs after five zeros, by turns. Assumes nothing.
-use Rattle.bits.specs.Bits.{allBinary}
+use Rattle.bits.specs.Bits.{allBelow}
 use Rattle.acelp_cc1.proofs.Sending.{outputs-coded}
 use borrow.Author.Needs.{needs}
 use Rattle.acelp_cc1.proofs.encoding.send.Statement.{statement}
@@ -21,7 +21,7 @@ slice-aggregate-line-outputs-3 : tie.Need-slice-aggregate-line-outputs-3
 slice-aggregate-line-outputs-3 c = search needs
 
 line-outputs-requires : tie.Need-line-outputs-requires
-unfolding allBinary
+unfolding allBelow
 line-outputs-requires c κs = search needs
 
 slice-aggregate-send-runs : tie.Need-slice-aggregate-send-runs

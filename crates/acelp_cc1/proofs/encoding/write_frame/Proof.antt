@@ -1,6 +1,6 @@
 -- `acelp_cc1::encoding::write_frame` meets its contract. Assumes nothing.
 use mathlib.Core.Path.{refl}
-use Rattle.acelp_cc1.proofs.Framing.{sorted-fine, inputs-fine, framed}
+use Rattle.acelp_cc1.proofs.Framing.{sorted-passed, inputs-passed, framed}
 use borrow.Author.Needs.{needs}
 use Rattle.acelp_cc1.proofs.encoding.write_frame.Statement.{statement}
 use Rattle.acelp_cc1.proofs.encoding.write_frame.Tie as tie
@@ -21,8 +21,8 @@ fill-inputs-requires : tie.Need-fill-inputs-requires
 fill-inputs-requires c κs =
     let sorted = c .before .before .before in
     let begin = sorted .before .before .before .before in
-    let fine = sorted-fine _ (begin .pre .1) (sorted .order .ensures) in
-    (fine .0, fine .1, refl)
+    let passed = sorted-passed _ (begin .pre .1) (sorted .order .ensures) in
+    (passed .0, passed .1, refl)
 
 slice-aggregate-send : tie.Need-slice-aggregate-send
 slice-aggregate-send c = search needs
@@ -32,8 +32,8 @@ send-requires c κs =
     let filled = c .before .before .before in
     let sorted = filled .before .before .before .before in
     let begin = sorted .before .before .before .before in
-    let fine = inputs-fine _ (begin .pre .1) (sorted .order .ensures) (filled .fill-inputs .ensures) in
-    (fine .0, fine .1, begin .pre .2)
+    let passed = inputs-passed _ (begin .pre .1) (sorted .order .ensures) (filled .fill-inputs .ensures) in
+    (passed .0, passed .1, begin .pre .2)
 
 slice-aggregate-copy-end : tie.Need-slice-aggregate-copy-end
 slice-aggregate-copy-end c = search needs

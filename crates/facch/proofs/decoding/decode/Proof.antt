@@ -1,29 +1,32 @@
 -- `facch::decoding::decode` meets its contract: a refusal, or an answer. Assumes nothing.
-use Rattle.facch.proofs.Receiving.{decode-fine}
+use Rattle.bits.proofs.Refusing.{passed-bits}
+use Rattle.bits.proofs.Erased.{binary-erasable}
 use Rattle.facch.proofs.Settling.{declined-end, answered-end}
 use borrow.Author.Needs.{needs}
 use Rattle.facch.proofs.decoding.decode.Statement.{statement}
 use Rattle.facch.proofs.decoding.decode.Tie as tie
 
-lent-decode-requires : tie.Need-lent-decode-requires
-lent-decode-requires c κs = search needs
+exact-bits-requires : tie.Need-exact-bits-requires
+exact-bits-requires c κs = search needs
 
 enum-known-ready : tie.Need-enum-known-ready
 enum-known-ready c = search needs
 
 returns : tie.Need-returns
-returns c = declined-end (c .before .before .before .before .before .args .coded .now) (c .before .before .before .before .before .args .dvcc) (c .before .before .before .lent-decode .ensures) _ (c .before .ready .given .1)
+returns c = declined-end (c .before .before .before .before .before .args .coded .now) (c .before .before .before .before .before .args .dvcc) (c .before .before .before .exact-bits .ensures) _ (c .before .ready .given .1)
 
 enum-told : tie.Need-enum-told
 enum-told c = search needs
 
 answer-requires : tie.Need-answer-requires
-answer-requires c κs = decode-fine (c .before .before .before .before .args .coded .now) (c .before .before .lent-decode .ensures) (c .enum-told .given .1)
+answer-requires c κs =
+    let p = passed-bits 260 (c .before .before .before .before .args .coded .now) (c .before .before .exact-bits .ensures) (c .enum-told .given .1) in
+    (p .0, binary-erasable (c .before .before .before .before .args .coded .now) (p .1))
 
 returns-2 : tie.Need-returns-2
-returns-2 c = answered-end (c .before .before .before .before .before .args .coded .now) (c .before .before .before .before .before .args .dvcc) (c .before .before .before .lent-decode .ensures) (c .before .enum-told .given .1) (c .answer .ensures)
+returns-2 c = answered-end (c .before .before .before .before .before .args .coded .now) (c .before .before .before .before .before .args .dvcc) (c .before .before .before .exact-bits .ensures) (c .before .enum-told .given .1) (c .answer .ensures)
 
 pub decode-spec : {M : Type 1} → statement M
 decode-spec =
     tie.close
-    (tie.spec lent-decode-requires enum-known-ready returns enum-told answer-requires returns-2)
+    (tie.spec exact-bits-requires enum-known-ready returns enum-told answer-requires returns-2)

@@ -1,24 +1,24 @@
 -- `facch::decoding::finish` meets its contract: the checksum in the word decides. Assumes nothing.
-use Rattle.facch.proofs.Settling.{spoilt-end, taken-end}
+use Rattle.facch.proofs.Settling.{failed-end, taken-end}
 use borrow.Author.Needs.{needs}
 use Rattle.facch.proofs.decoding.finish.Statement.{statement}
 use Rattle.facch.proofs.decoding.finish.Tie as tie
 
-is-sound-requires : tie.Need-is-sound-requires
-is-sound-requires c κs = search needs
+crc-valid-requires : tie.Need-crc-valid-requires
+crc-valid-requires c κs = search needs
 
 returns : tie.Need-returns
-returns c = spoilt-end (c .before .before .before .args .word .now) _ _ _ (c .before .is-sound .ensures) (c .if1 .taken)
+returns c = failed-end (c .before .before .before .args .word .now) _ _ _ (c .before .crc-valid .ensures) (c .if1 .taken)
 
 message-requires : tie.Need-message-requires
 message-requires c κs = search needs
 
-shared-slice-read-t10 : tie.Need-shared-slice-read-t10
-shared-slice-read-t10 c = search needs
+shared-slice-read-continuation : tie.Need-shared-slice-read-continuation
+shared-slice-read-continuation c = search needs
 
 returns-2 : tie.Need-returns-2
-returns-2 c = taken-end (c .before .before .before .before .before .args .word .now) _ _ _ (c .before .before .before .is-sound .ensures) (c .before .before .if1 .left) (c .before .before .before .before .before .pre .1) (c .before .message .ensures)
+returns-2 c = taken-end (c .before .before .before .before .before .args .word .now) _ _ _ (c .before .before .before .crc-valid .ensures) (c .before .before .if1 .left) (c .before .before .before .before .before .pre .1) (c .before .message .ensures)
 
 pub finish-spec : {M : Type 1} → statement M
 finish-spec =
-    tie.close (tie.spec is-sound-requires returns message-requires shared-slice-read-t10 returns-2)
+    tie.close (tie.spec crc-valid-requires returns message-requires shared-slice-read-continuation returns-2)

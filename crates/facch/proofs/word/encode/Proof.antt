@@ -8,14 +8,14 @@ use borrow.Author.Needs.{needs}
 use Rattle.facch.proofs.word.encode.Statement.{statement}
 use Rattle.facch.proofs.word.encode.Tie as tie
 
-lent-encode-requires : tie.Need-lent-encode-requires
-lent-encode-requires c κs = search needs
+encode-arguments-requires : tie.Need-encode-arguments-requires
+encode-arguments-requires c κs = search needs
 
 enum-known-ready : tie.Need-enum-known-ready
 enum-known-ready c = search needs
 
 returns : tie.Need-returns
-returns c = declined-end (c .before .before .before .lent-encode .ensures) _ (c .before .ready .given .1)
+returns c = declined-end (c .before .before .before .encode-arguments .ensures) _ (c .before .ready .given .1)
 
 enum-told : tie.Need-enum-told
 enum-told c = search needs
@@ -38,7 +38,7 @@ slice-aggregate-encode-word c = search needs
 encode-word-requires : tie.Need-encode-word-requires
 encode-word-requires c κs =
     let start = c .before .before .before .before .before .before .before .before .before in
-    asks-word (start .args .continuation) (start .args .message) (start .args .dvcc) (c .before .before .before .complete .ensures) _ (c .before .before .before .before .before .before .before .lent-encode .ensures) (c .before .before .before .before .before .enum-told .given .1)
+    asks-word (start .args .continuation) (start .args .message) (start .args .dvcc) (c .before .before .before .complete .ensures) _ (c .before .before .before .before .before .before .before .encode-arguments .ensures) (c .before .before .before .before .before .enum-told .given .1)
 
 same-length : tie.Need-same-length
 same-length c = search needs
@@ -46,13 +46,13 @@ same-length c = search needs
 returns-2 : tie.Need-returns-2
 returns-2 c =
     let start = c .before .before .before .before .before .before .before .before .before .before .before .before in
-    done-end (c .before .before .before .before .before .before .before .before .before .before .lent-encode .ensures) (c .before .before .before .before .before .before .before .before .enum-told .given .1) (word-coded (start .args .continuation) (start .args .message) (start .args .dvcc) (c .before .before .before .before .before .before .complete .ensures) (c .before .before .encode-word .ensures))
+    done-end (c .before .before .before .before .before .before .before .before .before .before .encode-arguments .ensures) (c .before .before .before .before .before .before .before .before .enum-told .given .1) (word-coded (start .args .continuation) (start .args .message) (start .args .dvcc) (c .before .before .before .before .before .before .complete .ensures) (c .before .before .encode-word .ensures))
 
 pub encode-spec : {M : Type 1} → statement M
 encode-spec =
     tie.close
     (tie.spec
-    lent-encode-requires
+    encode-arguments-requires
     enum-known-ready
     returns
     enum-told

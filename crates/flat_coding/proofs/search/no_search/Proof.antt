@@ -1,20 +1,16 @@
--- `flat_coding::search::no_search` meets its contract. Assumes nothing.
-use Rattle.flat_coding.proofs.Searches.{refused-search}
+-- `flat_coding::search::no_search` meets its contract: the refusal's numbers, and zeros. Assumes nothing.
+use mathlib.Core.Bool.{false}
+use mathlib.Core.Path.{ap}
+use Rattle.flat_coding.specs.declared.calls.Written.{Written}
 use borrow.Author.Needs.{needs}
 use Rattle.flat_coding.proofs.search.no_search.Statement.{statement}
 use Rattle.flat_coding.proofs.search.no_search.Tie as tie
 
-number-requires : tie.Need-number-requires
-number-requires c κs = search needs
-
-expected-requires : tie.Need-expected-requires
-expected-requires c κs = search needs
-
-actual-requires : tie.Need-actual-requires
-actual-requires c κs = search needs
+not-written-requires : tie.Need-not-written-requires
+not-written-requires c κs = search needs
 
 returns : tie.Need-returns
-returns c = refused-search (c .before .before .before .args .why) _ _ _ (c .before .before .number .ensures) (c .before .expected .ensures) (c .actual .ensures)
+returns c = ap (λ (w : Written). record { refusal = w .refusal; expected = w .expected; actual = w .actual; metric = 0; tie = false }) (c .not-written .ensures)
 
 pub no-search-spec : {M : Type 1} → statement M
-no-search-spec = tie.close (tie.spec number-requires expected-requires actual-requires returns)
+no-search-spec = tie.close (tie.spec not-written-requires returns)

@@ -1,6 +1,6 @@
 -- `flat_coding::search::search_refusal` meets its contract: the block's length, the word's, then the symbols. Assumes nothing.
 use mathlib.Core.Path.{ap₂, _∙_}
-use Rattle.bits.specs.Refusals.{firstOf}
+use Rattle.bits.specs.Arguments.{firstRefusal}
 use borrow.Author.Needs.{needs}
 use Rattle.flat_coding.proofs.search.search_refusal.Statement.{statement}
 use Rattle.flat_coding.proofs.search.search_refusal.Tie as tie
@@ -14,14 +14,14 @@ exact-requires c κs = search needs
 only-bits-requires : tie.Need-only-bits-requires
 only-bits-requires c κs = search needs
 
-first-requires : tie.Need-first-requires
-first-requires c κs = search needs
+first-refusal-requires : tie.Need-first-refusal-requires
+first-refusal-requires c κs = search needs
 
-first-requires-2 : tie.Need-first-requires-2
-first-requires-2 c κs = search needs
+first-refusal-requires-2 : tie.Need-first-refusal-requires-2
+first-refusal-requires-2 c κs = search needs
 
 returns : tie.Need-returns
-returns c = c .first2 .ensures ∙ ap₂ firstOf (c .before .before .before .before .pairs .ensures) (c .before .first .ensures ∙ ap₂ firstOf (c .before .before .before .exact .ensures) (c .before .before .only-bits .ensures))
+returns c = c .first-refusal2 .ensures ∙ ap₂ firstRefusal (c .before .before .before .before .pairs .ensures) (c .before .first-refusal .ensures ∙ ap₂ firstRefusal (c .before .before .before .exact .ensures) (c .before .before .only-bits .ensures))
 
 pub search-refusal-spec : {M : Type 1} → statement M
 search-refusal-spec =
@@ -30,6 +30,6 @@ search-refusal-spec =
     pairs-requires
     exact-requires
     only-bits-requires
-    first-requires
-    first-requires-2
+    first-refusal-requires
+    first-refusal-requires-2
     returns)

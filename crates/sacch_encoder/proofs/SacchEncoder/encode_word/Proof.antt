@@ -4,7 +4,7 @@ use mathlib.Core.Bool.{Bool}
 use mathlib.Core.List.{List, []}
 use Prim.Native.Nat.{_^_}
 use native.Mathlib.Omega.{arith}
-use Rattle.bits.specs.Refusals.{belowOf}
+use Rattle.bits.specs.Arguments.{belowOf}
 use Rattle.bits.proofs.Binary.{binary-cons, binary-bytes}
 use Rattle.words.proofs.Made.{flag-binary}
 use Rattle.sacch_encoder.specs.Words.{sixesOf}
@@ -16,15 +16,15 @@ use borrow.Author.Needs.{needs}
 use Rattle.sacch_encoder.proofs.SacchEncoder.encode_word.Statement.{statement}
 use Rattle.sacch_encoder.proofs.SacchEncoder.encode_word.Tie as tie
 
-lent-requires : tie.Need-lent-requires
-lent-requires c κs = search needs
+arguments-requires : tie.Need-arguments-requires
+arguments-requires c κs = search needs
 
 enum-known-ready : tie.Need-enum-known-ready
 enum-known-ready c = search needs
 
 returns : tie.Need-returns
 unfolding encodeWordOf
-returns c = declined-end (c .before .before .before .lent .ensures) _ _ _ _ _ (c .before .ready .given .1)
+returns c = declined-end (c .before .before .before .arguments .ensures) _ _ _ _ _ (c .before .ready .given .1)
 
 enum-told : tie.Need-enum-told
 enum-told c = search needs
@@ -48,7 +48,7 @@ with-word-requires : tie.Need-with-word-requires
 with-word-requires c κs =
     let a = c .before .before .before .before .before .before .before .args in
     let filled = c .before .before .complete .ensures in
-    let f = fit-ready (a .self) (belowOf (2 ^ 48) (a .message)) (c .before .before .before .before .before .before .lent .ensures) (c .before .before .before .before .enum-told .given .1) in
+    let f = fit-ready (a .self) (belowOf (2 ^ 48) (a .message)) (c .before .before .before .before .before .before .arguments .ensures) (c .before .before .before .before .enum-told .given .1) in
     (f .memory, f .cursor, filled-length (a .continuation) (a .message) (a .dvcc) filled, filled-binary (a .continuation) (a .message) (a .dvcc) filled)
 
 returns-2 : tie.Need-returns-2
@@ -57,14 +57,14 @@ returns-2 c =
     let a = c .before .before .before .before .before .before .before .before .args in
     let same = filled-bits (a .continuation) (a .message) (a .dvcc) (c .before .before .before .complete .ensures) in
     let sent = c .with-word .ensures in
-    done-end (c .before .before .before .before .before .before .before .lent .ensures) (a .self) _ _ _ (c .before .before .before .before .before .enum-told .given .1) (sent .0)
+    done-end (c .before .before .before .before .before .before .before .arguments .ensures) (a .self) _ _ _ (c .before .before .before .before .before .enum-told .given .1) (sent .0)
     (sent .1 ∙ ap (λ (w : List Bool). encodedAll (a .self) (sixesOf w)) same) (sent .2 ∙ ap (λ (w : List Bool). fieldsFrom (a .self) (sixesOf w)) same)
 
 pub encode-word-spec : {M : Type 1} → statement M
 encode-word-spec =
     tie.close
     (tie.spec
-    lent-requires
+    arguments-requires
     enum-known-ready
     returns
     enum-told

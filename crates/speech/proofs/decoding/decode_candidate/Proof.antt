@@ -5,20 +5,20 @@ use borrow.Author.Needs.{needs}
 use Rattle.speech.proofs.decoding.decode_candidate.Statement.{statement}
 use Rattle.speech.proofs.decoding.decode_candidate.Tie as tie
 
-lent-decode-requires : tie.Need-lent-decode-requires
-lent-decode-requires c κs = search needs
+decode-arguments-requires : tie.Need-decode-arguments-requires
+decode-arguments-requires c κs = search needs
 
 enum-known-ready : tie.Need-enum-known-ready
 enum-known-ready c = search needs
 
 returns : tie.Need-returns
-returns c = declined-end (c .before .before .before .lent-decode .ensures) _ (c .before .ready .given .1)
+returns c = declined-end (c .before .before .before .decode-arguments .ensures) _ (c .before .ready .given .1)
 
 enum-told : tie.Need-enum-told
 enum-told c = search needs
 
 settle-requires : tie.Need-settle-requires
-settle-requires c κs = sym (c .before .before .before .before .lent-decode .ensures) ∙ c .before .before .enum-told .given .1
+settle-requires c κs = sym (c .before .before .before .before .decode-arguments .ensures) ∙ c .before .before .enum-told .given .1
 
 same-length : tie.Need-same-length
 same-length c = search needs
@@ -33,7 +33,7 @@ pub decode-candidate-spec : {M : Type 1} → statement M
 decode-candidate-spec =
     tie.close
     (tie.spec
-    lent-decode-requires
+    decode-arguments-requires
     enum-known-ready
     returns
     enum-told

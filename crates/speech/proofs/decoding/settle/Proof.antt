@@ -2,7 +2,7 @@
 use mathlib.Core.Path.{refl}
 use native.Mathlib.Omega.{arith}
 use lib.ListN.{length}
-use Rattle.speech.proofs.Answering.{decode-fine}
+use Rattle.speech.proofs.Answering.{decode-passed}
 use Rattle.speech.proofs.InputBits.{copied-out}
 use Rattle.speech.proofs.Settling.{inputs-binary, unclear-end, settled-end}
 use borrow.Author.Needs.{needs}
@@ -15,8 +15,8 @@ slice-aggregate-nearest-inputs c = search needs
 nearest-inputs-requires : tie.Need-nearest-inputs-requires
 nearest-inputs-requires c κs =
     let entry = c .before .before .before .before in
-    let fine = decode-fine (entry .args .frame .now) (length (entry .args .class-one .now)) (length (entry .args .class-two .now)) (entry .pre) in
-    (fine .0, fine .3, refl)
+    let passed = decode-passed (entry .args .frame .now) (length (entry .args .class-one .now)) (length (entry .args .class-two .now)) (entry .pre) in
+    (passed .0, passed .3, refl)
 
 returns : tie.Need-returns
 returns c = unclear-end (c .before .before .before .before .before .before .before .pre) (c .before .before .nearest-inputs .ensures) (c .if1 .taken)
@@ -27,14 +27,14 @@ slice-aggregate-copy-run c = search needs
 copy-run-requires : tie.Need-copy-run-requires
 copy-run-requires c κs =
     let entry = c .before .before .before .before .before .before .before .before .before in
-    let fine = decode-fine (entry .args .frame .now) (length (entry .args .class-one .now)) (length (entry .args .class-two .now)) (entry .pre) in
-    (omega (arith, c .before .before .before .before .nearest-inputs .kept .1 .0), omega (arith, fine .1))
+    let passed = decode-passed (entry .args .frame .now) (length (entry .args .class-one .now)) (length (entry .args .class-two .now)) (entry .pre) in
+    (omega (arith, c .before .before .before .before .nearest-inputs .kept .1 .0), omega (arith, passed .1))
 
 take-class-two-requires : tie.Need-take-class-two-requires
 take-class-two-requires c κs =
     let entry = c .before .before .before .before .before .before .before .before .before .before .before .before .before in
-    let fine = decode-fine (entry .args .frame .now) (length (entry .args .class-one .now)) (length (entry .args .class-two .now)) (entry .pre) in
-    (fine .0, fine .2)
+    let passed = decode-passed (entry .args .frame .now) (length (entry .args .class-one .now)) (length (entry .args .class-two .now)) (entry .pre) in
+    (passed .0, passed .2)
 
 slice-aggregate-accept : tie.Need-slice-aggregate-accept
 slice-aggregate-accept c = search needs
@@ -51,8 +51,8 @@ same-length-2 c = search needs
 returns-2 : tie.Need-returns-2
 returns-2 c =
     let entry = c .before .before .before .before .before .before .before .before .before .before .before .before .before .before .before .before .before .before in
-    let fine = decode-fine (entry .args .frame .now) (length (entry .args .class-one .now)) (length (entry .args .class-two .now)) (entry .pre) in
-    settled-end (entry .pre) (c .before .before .before .before .before .before .before .before .before .before .before .before .before .nearest-inputs .ensures) (c .before .before .before .before .before .before .before .before .before .before .before .if1 .left) (copied-out (c .before .before .before .before .before .before .before .before .before .before .before .before .before .nearest-inputs .last .1 .0) (entry .args .class-one .now) (fine .1) (c .before .before .before .before .before .before .before .before .copy-run .ensures)) (c .before .before .before .before .take-class-two .ensures) (c .accept .ensures)
+    let passed = decode-passed (entry .args .frame .now) (length (entry .args .class-one .now)) (length (entry .args .class-two .now)) (entry .pre) in
+    settled-end (entry .pre) (c .before .before .before .before .before .before .before .before .before .before .before .before .before .nearest-inputs .ensures) (c .before .before .before .before .before .before .before .before .before .before .before .if1 .left) (copied-out (c .before .before .before .before .before .before .before .before .before .before .before .before .before .nearest-inputs .last .1 .0) (entry .args .class-one .now) (passed .1) (c .before .before .before .before .before .before .before .before .copy-run .ensures)) (c .before .before .before .before .take-class-two .ensures) (c .accept .ensures)
 
 pub settle-spec : {M : Type 1} → statement M
 settle-spec =

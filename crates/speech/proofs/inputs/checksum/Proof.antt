@@ -1,9 +1,8 @@
 -- `speech::inputs::checksum` meets its contract: the significant bits are gathered. Assumes nothing.
 use mathlib.Core.Path.{refl, ap, _∙_}
-use Rattle.bits.specs.Bits.{bits}
+use Rattle.bits.specs.Bits.{allBelow, bits}
 use Rattle.bits.proofs.Binary.{bits-bytes}
 use Rattle.checksums.specs.Checksums.{checksum7Of}
-use Rattle.speech.specs.Runs.{allBelow}
 use Rattle.speech.proofs.InputBits.{gathered-binary}
 use borrow.Author.Needs.{needs}
 use Rattle.speech.proofs.inputs.checksum.Statement.{statement}

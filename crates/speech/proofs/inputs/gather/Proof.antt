@@ -3,8 +3,9 @@ use mathlib.Core.Path.{_≡_, refl, sym, _∙_}
 use Prim.Native.Nat.{_-_}
 use native.Mathlib.Omega.{arith}
 use lib.ListN.{length, getD}
+use Rattle.bits.proofs.Below.{below-at}
 use Rattle.bits.proofs.Filled.{Filling, filling-none, filling-more}
-use Rattle.speech.proofs.InputBits.{below-at, gathered}
+use Rattle.speech.proofs.InputBits.{gathered}
 use borrow.Author.Needs.{needs}
 use Rattle.speech.proofs.inputs.gather.Statement.{statement}
 use Rattle.speech.proofs.inputs.gather.Tie as tie
@@ -25,7 +26,7 @@ shared-slice-read-out : tie.Need-shared-slice-read-out Inv-loop μ-loop
 shared-slice-read-out c = omega arith
 
 shared-slice-read-out-2 : tie.Need-shared-slice-read-out-2 Inv-loop μ-loop
-shared-slice-read-out-2 c = below-at (c .before .before .before .before .args .places .now) _ (c .before .before .before .before .pre .2) _ (omega arith)
+shared-slice-read-out-2 c = below-at _ (c .before .before .before .before .args .places .now) (c .before .before .before .before .pre .2) _ (omega arith)
 
 slice-write-out : tie.Need-slice-write-out Inv-loop μ-loop
 slice-write-out c = omega (arith, c .before .before .before .loop .inv .1 .size)

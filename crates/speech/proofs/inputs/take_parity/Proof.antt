@@ -1,5 +1,5 @@
 -- `speech::inputs::take_parity` meets its contract. Assumes nothing.
-use Rattle.speech.specs.Runs.{allBelow}
+use Rattle.bits.specs.Bits.{allBelow}
 use borrow.Author.Needs.{needs}
 use Rattle.speech.proofs.inputs.take_parity.Statement.{statement}
 use Rattle.speech.proofs.inputs.take_parity.Tie as tie

@@ -6,7 +6,7 @@ use mathlib.Core.List.{[]}
 use lib.ListN.{length}
 use Rattle.bits.proofs.Filled.{Filling, filling-none, filling-more, filling-done}
 use Rattle.tailbiting.specs.Rows.{RowOf}
-use Rattle.tailbiting.proofs.Erasable.{erasable-at}
+use Rattle.bits.proofs.Below.{below-at}
 use Rattle.tailbiting.proofs.rows.fill_rows.Statement.{statement}
 use Rattle.tailbiting.proofs.rows.fill_rows.Tie as tie
 
@@ -68,7 +68,7 @@ step-row-requires : tie.Need-step-row-requires Inv-loop μ-loop
 step-row-requires c κs =
     let fourth = c .before .before .before .before .before .before .before .before .before .before in
     let erasable = fourth .before .before .before .before .before .pre .2 in (
-      (erasable-at _ erasable _ (omega arith), erasable-at _ erasable _ (omega arith), erasable-at _ erasable _ (omega arith), erasable-at _ erasable _ (omega arith)),
+      (below-at 3 _ erasable _ (omega arith), below-at 3 _ erasable _ (omega arith), below-at 3 _ erasable _ (omega arith), below-at 3 _ erasable _ (omega arith)),
       (fourth .before .before .before .outputs .ensures, fourth .before .before .outputs2 .ensures, fourth .before .outputs3 .ensures, fourth .outputs4 .ensures),
     )
 

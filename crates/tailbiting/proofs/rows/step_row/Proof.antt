@@ -4,7 +4,7 @@ use native.Mathlib.Omega.{arith}
 use mathlib.Core.Path.{_≡_, refl}
 use Rattle.bits.proofs.Filled.{Filling, filling-none, filling-more, filling-done}
 use Rattle.tailbiting.specs.Rows.{costAt}
-use Rattle.tailbiting.specs.TailBiting.{erasedDiffer}
+use Rattle.bits.specs.Observed.{erasedDiffer}
 use Rattle.search.proofs.ByPlace.{output-below, place-cost}
 use Rattle.tailbiting.proofs.rows.step_row.Statement.{statement}
 use Rattle.tailbiting.proofs.rows.step_row.Tie as tie
