@@ -2,7 +2,7 @@
 //! answers there.
 use crate::blocks::{Ends, Kind};
 use crate::phy::dcch::{BlockFormat, CrcMode, probe};
-use crate::port::{self, Block};
+use crate::port::{self, Block, Of};
 use crate::prng::Prng;
 
 pub const FORMATS: [BlockFormat; 3] = [
