@@ -9,7 +9,7 @@ use Rattle.bits.specs.Bits.{bits, bytes}
 use Rattle.bits.specs.Numbers.{packed}
 use Rattle.bits.specs.Refusals.{Answer, accepted, refused}
 use Rattle.bits.specs.Arguments.{bitsAndRoom}
-use Rattle.bits.specs.Calls.{Written}
+use Rattle.bits.specs.Calls.{WriteCall}
 use Rattle.bits.specs.declared.arguments.Arguments.{Arguments}
 use Rattle.bits.specs.declared.arguments.Arguments.the-variants.{Passed, Refused}
 use Rattle.bits.specs.declared.Refusal.{Refusal}
@@ -27,7 +27,7 @@ abbrev pub encodeArguments : List ℕ → ℕ → Arguments
 encodeArguments speech room = bitsAndRoom 148 speech 260 room
 
 abbrev pub Encoding : List ℕ → List ℕ → List ℕ → Wrote → Type 0
-Encoding speech frame₀ frame r = Written (encodeArguments speech (length frame₀)) (bytes (frameOf (bits speech))) frame₀ frame r
+Encoding speech frame₀ frame r = WriteCall (encodeArguments speech (length frame₀)) (bytes (frameOf (bits speech))) frame₀ frame r
 
 -- ---- decode
 abbrev pub decodeArguments : List ℕ → ℕ → Arguments

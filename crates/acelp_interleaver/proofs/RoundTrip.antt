@@ -5,7 +5,7 @@ use Prim.Native.Nat.{ℕ, zero, suc, _+_, _-_, _<_}
 use native.Mathlib.Omega.{arith}
 use lib.ListN.{length, take, drop}
 use lib.Seq.{take-at, drop-at, drop-drop, take-all}
-use Rattle.bits.specs.Calls.{Written, wroteAnswer}
+use Rattle.bits.specs.Calls.{WriteCall, wroteAnswer}
 use Rattle.bits.specs.Refusals.{accepted}
 use Rattle.bits.specs.declared.arguments.Arguments.{Arguments}
 use Rattle.bits.specs.declared.arguments.Arguments.the-variants.{Passed, Refused}
@@ -50,9 +50,9 @@ module _ {A : Type 0} (a b c : List A) (la : length a ≡ 260) (lb : length b �
 
 -- Frames one after the other, a slot for each three of them; the frame is then the newest of the first slot's.
 -- The slots past those that a frame is spread over are of any content.
-pub round-trip : {A : Type 0} (d : A) (mode : Interleaving) (frame slot : ℕ → List A) → ((i : ℕ) → length (frame i) ≡ 260) → ((k : ℕ) → length (slot k) ≡ 260)
+pub acelp-slots-round-trip : {A : Type 0} (d : A) (mode : Interleaving) (frame slot : ℕ → List A) → ((i : ℕ) → length (frame i) ≡ 260) → ((k : ℕ) → length (slot k) ≡ 260)
     → ((k : ℕ) → k < slotsOf mode → slot k ≡ interleaved d (three frame k) mode) → deinterleaved d (three slot 0) mode ≡ frame 2
-round-trip {A} d mode frame slot lf ls carry =
+acelp-slots-round-trip {A} d mode frame slot lf ls carry =
     carried-back d mode (three slot 0) (frame 2) (three frame) (lf 2) (λ k h. thirds k (below mode k h) ∙ carry k h) (λ k h. same k (below mode k h))
   where
     below : (m : Interleaving) (k : ℕ) → k < slotsOf m → k < 3
@@ -73,14 +73,14 @@ round-trip {A} d mode frame slot lf ls carry =
     same (suc (suc (suc k))) h = absurd (omega arith)
 
 -- ---- the calls
-done-written : (arguments : Arguments) {result buffer₀ buffer : List ℕ} {r : Wrote} → Written arguments result buffer₀ buffer r → wroteAnswer r ≡ accepted tt → buffer ≡ result
+done-written : (arguments : Arguments) {result buffer₀ buffer : List ℕ} {r : Wrote} → WriteCall arguments result buffer₀ buffer r → wroteAnswer r ≡ accepted tt → buffer ≡ result
 done-written Passed w e = w .done refl .1
 done-written (Refused why) w e = let d = w .declined why refl .0 in let z : _≡_ {A = ℕ} 0 1 = cc in absurd (omega arith)
 
 -- where each call is done
-pub calls-round-trip : (mode : Interleaving) (frame slot before : ℕ → List ℕ) (r : ℕ → Wrote) (frame₀ frame′ : List ℕ) (s : Wrote)
+pub acelp-slot-calls-round-trip : (mode : Interleaving) (frame slot before : ℕ → List ℕ) (r : ℕ → Wrote) (frame₀ frame′ : List ℕ) (s : Wrote)
     → ((i : ℕ) → length (frame i) ≡ 260) → ((k : ℕ) → length (slot k) ≡ 260)
     → ((k : ℕ) → k < slotsOf mode → InterleavingCall (three frame k) mode (before k) (slot k) (r k) × (wroteAnswer (r k) ≡ accepted tt))
     → DeinterleavingCall (three slot 0) mode frame₀ frame′ s → wroteAnswer s ≡ accepted tt → frame′ ≡ frame 2
-calls-round-trip mode frame slot before r frame₀ frame′ s lf ls calls back e =
-    done-written _ back e ∙ round-trip 0 mode frame slot lf ls (λ k h. done-written _ (calls k h .0) (calls k h .1))
+acelp-slot-calls-round-trip mode frame slot before r frame₀ frame′ s lf ls calls back e =
+    done-written _ back e ∙ acelp-slots-round-trip 0 mode frame slot lf ls (λ k h. done-written _ (calls k h .0) (calls k h .1))

@@ -4,7 +4,7 @@ use Prim.Native.Nat.{ℕ, _-_, _*_, _/_, _%_}
 use lib.ListN.{length, getD, take, drop}
 use Rattle.bits.specs.Places.{listed, placeIn}
 use Rattle.bits.specs.Arguments.{bitsAndRoom}
-use Rattle.bits.specs.Calls.{Written}
+use Rattle.bits.specs.Calls.{WriteCall}
 use Rattle.bits.specs.declared.arguments.Arguments.{Arguments}
 use Rattle.bits.specs.declared.Wrote.{Wrote}
 use Rattle.interleaving.specs.Slots.{carried, collected}
@@ -75,7 +75,7 @@ abbrev pub threeArguments : List ℕ → ℕ → Arguments
 threeArguments l room = bitsAndRoom 780 l 260 room
 
 abbrev pub InterleavingCall : List ℕ → Interleaving → List ℕ → List ℕ → Wrote → Type 0
-InterleavingCall history mode slot₀ slot r = Written (threeArguments history (length slot₀)) (interleaved 0 history mode) slot₀ slot r
+InterleavingCall history mode slot₀ slot r = WriteCall (threeArguments history (length slot₀)) (interleaved 0 history mode) slot₀ slot r
 
 abbrev pub DeinterleavingCall : List ℕ → Interleaving → List ℕ → List ℕ → Wrote → Type 0
-DeinterleavingCall slots mode frame₀ frame r = Written (threeArguments slots (length frame₀)) (deinterleaved 0 slots mode) frame₀ frame r
+DeinterleavingCall slots mode frame₀ frame r = WriteCall (threeArguments slots (length frame₀)) (deinterleaved 0 slots mode) frame₀ frame r

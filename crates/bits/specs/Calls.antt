@@ -15,6 +15,6 @@ wroteAnswer wrote.Done = accepted tt
 wroteAnswer (wrote.Refused why) = refused why
 
 -- refused with nothing written, or accepted with the result in the buffer
-pub record Written (arguments : Arguments) (result buffer₀ buffer : List ℕ) (r : Wrote) : Type 0 where
+pub record WriteCall (arguments : Arguments) (result buffer₀ buffer : List ℕ) (r : Wrote) : Type 0 where
   pub declined : (why : Refusal) → arguments ≡ Refused why → (wroteAnswer r ≡ refused why) × (buffer ≡ buffer₀)
   pub done : arguments ≡ Passed → (wroteAnswer r ≡ accepted tt) × (buffer ≡ result)

@@ -11,10 +11,10 @@ ghost use Rattle.bits.specs.Bits.{allBinary, bit, bits, bytes};
 ghost use Rattle.coding.specs.Codes.{acelp, coded};
 ghost use Rattle.coding.specs.Registers.{memoryLow, Stepped};
 
-// TIA/EIA-136-410 4.3, the newest input lowest.
-const G0: u8 = 0b101011;
+// TIA/EIA-136-410 4.3, the newest input lowest. DCCH's are the same in this order.
+pub const G0: u8 = 0b101011;
 
-const G1: u8 = 0b111101;
+pub const G1: u8 = 0b111101;
 
 // One step: the register is the state with the input below it, and its low five bits are the next state.
 pub fn transition(state: u8, input: u8) -> Step

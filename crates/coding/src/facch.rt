@@ -19,6 +19,15 @@ const G2: u8 = 0o75;
 
 const G3: u8 = 0o53;
 
+// The same with the newest input lowest, as the search numbers its states.
+pub const LOW_G0: u8 = 0b111011;
+
+pub const LOW_G1: u8 = 0b100111;
+
+pub const LOW_G2: u8 = 0b101111;
+
+pub const LOW_G3: u8 = 0b110101;
+
 pub struct Step {
     pub next: u8,
     pub output: [u8; 4],

@@ -24,7 +24,7 @@ use Rattle.dcch.specs.declared.block.Decoded.{Decoded}
 use Rattle.dcch.specs.declared.block.Decoded.the-variants as answer
 use Rattle.dcch_interleaver.specs.Formats.{encodedBits, informationBits}
 use Rattle.dcch_interleaver.specs.Wire.{deinterleaved}
-use Rattle.dcch.specs.Blocks.{decodeArguments, Found, Finished, Settled, Decoding}
+use Rattle.dcch.specs.Blocks.{decodeArguments, FoundWord, Finished, Settled, Decoding}
 use Rattle.dcch_interleaver.proofs.Interleaved.{bits-deinterleaved, binary-deinterleaved}
 use Rattle.dcch.proofs.Encodings.{format-sizes}
 
@@ -54,7 +54,7 @@ module _ (f : BlockFormat) (block : List ℕ) (binary : allBinary block ≡ true
     )
 
     pub found : (word₀ : List ℕ) {word : List ℕ} {r : Outcome} → length word₀ ≡ encodedBits f / 2
-        → FoundFirst (Terminated (length word₀)) (weight (bits (take n (cells ++ drop {A = ℕ} n (replicate 260 0))))) word r → Found f block word (r .metric)
+        → FoundFirst (Terminated (length word₀)) (weight (bits (take n (cells ++ drop {A = ℕ} n (replicate 260 0))))) word r → FoundWord f block word (r .metric)
     found word₀ {word} {r} h g =
         let e : bits (take n (cells ++ drop {A = ℕ} n (replicate 260 0))) ≡ deinterleaved f false (bits block) = ap bits part ∙ ap bits read ∙ bits-deinterleaved f block in
         let g' : FoundFirst (Terminated (encodedBits f / 2)) (weight (deinterleaved f false (bits block))) word r =
@@ -82,7 +82,7 @@ module _ (f : BlockFormat) (block : List ℕ) (dvcc : ℕ) (mode : CrcMode) (inf
       pub asks-nearest : (allBinary block ≡ true) × (length block ≡ encodedBits f) × (length (take {A = ℕ} (n / 2) (replicate 130 0)) ≡ encodedBits f / 2)
       asks-nearest = (tests .2, tests .0, length-take-le {A = ℕ} (n / 2) (replicate 130 0) half-within ∙ ap (λ (m : ℕ). m / 2) en)
 
-      module _ (word : List ℕ) (kept : length word ≡ length (take {A = ℕ} (n / 2) (replicate 130 0))) {corrected : ℕ} (g : Found f block word corrected) where
+      module _ (word : List ℕ) (kept : length word ≡ length (take {A = ℕ} (n / 2) (replicate 130 0))) {corrected : ℕ} (g : FoundWord f block word corrected) where
         word-part : take (n / 2) (word ++ drop {A = ℕ} (n / 2) (replicate 130 0)) ≡ word
         word-part = became (n / 2) (replicate 130 0) half-within word kept
 

@@ -96,10 +96,10 @@ module _ (f : BlockFormat) (information : List Bool) (size : length information 
       let l : length block ≡ encodedBits f = length-map (interleaved f false (cellsOf information dvcc mode)) byte ∙ interleaved-length f false (cellsOf information dvcc mode) in
       room-passed (encodedBits f) block (informationBits f) n l e (binary-bytes (interleaved f false (cellsOf information dvcc mode)))
 
-  pub round-trip : (information₀ information′ : List ℕ) (r : Decoded) → length information₀ ≡ informationBits f
+  pub dcch-round-trip : (information₀ information′ : List ℕ) (r : Decoded) → length information₀ ≡ informationBits f
       → Decoding f (bytes (blockOf f information dvcc mode)) dvcc mode information₀ information′ r
       → (decodeAnswer r ≡ accepted 0) × (information′ ≡ bytes information)
-  round-trip information₀ information′ r l d =
+  dcch-round-trip information₀ information′ r l d =
       let s : Settled f (bytes (blockOf f information dvcc mode)) dvcc mode information₀ information′ r = d .settled (passed (length information₀) l) in
       let w : List Bool = s .word in
       let first : First (Terminated (encodedBits f / 2)) (weight cells) w =

@@ -22,7 +22,7 @@ use Rattle.trellis.specs.Words.{Terminated}
 use Rattle.viterbi.specs.Hard.{weight}
 use Rattle.dcch_interleaver.specs.declared.BlockFormat.{BlockFormat}
 use Rattle.bits.specs.declared.Wrote.{Wrote}
-use Rattle.bits.specs.Calls.{Written}
+use Rattle.bits.specs.Calls.{WriteCall}
 use Rattle.dcch.specs.declared.block.Decoded.{Decoded}
 use Rattle.dcch.specs.declared.block.Decoded.the-variants as decoded
 use Rattle.dcch_interleaver.specs.Formats.{encodedBits, informationBits}
@@ -52,7 +52,7 @@ encodeArguments f information room = bitsAndRoom (informationBits f) information
 
 abbrev pub Encoding : BlockFormat → List ℕ → ℕ → CrcMode → List ℕ → List ℕ → Wrote → Type 0
 Encoding f information dvcc mode block₀ block r =
-    Written (encodeArguments f information (length block₀)) (bytes (blockOf f (bits information) dvcc mode)) block₀ block r
+    WriteCall (encodeArguments f information (length block₀)) (bytes (blockOf f (bits information) dvcc mode)) block₀ block r
 
 -- ---- decode
 -- a block and room for the information: each length, then the symbols
@@ -65,7 +65,7 @@ pub record Finished (inputs : List Bool) (corrected dvcc : ℕ) (mode : CrcMode)
   pub failed : crcValid (length information₀) inputs dvcc mode ≡ false → (decodeAnswer r ≡ refused Crc) × (information ≡ information₀)
 
 -- what the search of a block finds: the first of the nearest words, as bytes, and its number of disagreements
-pub record Found (f : BlockFormat) (block word : List ℕ) (corrected : ℕ) : Type 0 where
+pub record FoundWord (f : BlockFormat) (block word : List ℕ) (corrected : ℕ) : Type 0 where
   pub inputs : List Bool
   pub written : word ≡ bytes (reverse inputs)
   pub first : First (Terminated (encodedBits f / 2)) (weight (deinterleaved f false (bits block))) inputs

@@ -17,7 +17,7 @@ ghost use Prim.Native.Nat.{_+_, _*_, _/_, _≤_};
 ghost use lib.ListN.{length, replicate};
 ghost use Rattle.bits.specs.Bits.{allBinary, bits, bytes};
 ghost use Rattle.dcch_interleaver.specs.Formats.{encodedBits};
-ghost use Rattle.dcch.specs.Blocks.{Decoding, Encoding, Finished, Found, cellsOf, inputsOf, decodeArguments, encodeArguments};
+ghost use Rattle.dcch.specs.Blocks.{Decoding, Encoding, Finished, FoundWord, cellsOf, inputsOf, decodeArguments, encodeArguments};
 
 // What decoding a block answers: the number of corrected bits, or a refusal.
 pub enum Decoded {
@@ -105,7 +105,7 @@ pub fn encode(
 // Writes the first of the words nearest to a block, and gives its number of disagreements.
 fn nearest_word(format: BlockFormat, block: &[u8], word: &mut [u8]) -> u16
     requires { ⌜ (allBinary (now block) ≡ true) × (length (now block) ≡ encodedBits format) × (length (now word) ≡ encodedBits format / 2) ⌝ }
-    ensures { λ r. ⌜ Found format (now (block .entry)) (now (word .exit)) r ⌝ }
+    ensures { λ r. ⌜ FoundWord format (now (block .entry)) (now (word .exit)) r ⌝ }
 {
     let bits = format.encoded_bits();
     let mut cells = [0u8; 260];

@@ -9,7 +9,7 @@ use Rattle.bits.specs.declared.arguments.Arguments.{Arguments}
 use Rattle.coding.specs.Codes.{coded, facch}
 use Rattle.words.specs.Words.{madeOf}
 use Rattle.bits.specs.declared.Wrote.{Wrote}
-use Rattle.bits.specs.Calls.{Written}
+use Rattle.bits.specs.Calls.{WriteCall}
 
 -- 2.7.3.1.1: the 65 bits of a word, whose header is the continuation flag
 abbrev pub wordOf : Bool → ℕ → ℕ → List Bool
@@ -26,4 +26,4 @@ encodeArguments message room = firstRefusal (exactOf 260 room) (belowOf (2 ^ 48)
 
 abbrev pub Encoding : Bool → ℕ → ℕ → List ℕ → List ℕ → Wrote → Type 0
 Encoding continuation message dvcc coded₀ coded r =
-    Written (encodeArguments message (length coded₀)) (bytes (tailBiting (wordOf continuation message dvcc))) coded₀ coded r
+    WriteCall (encodeArguments message (length coded₀)) (bytes (tailBiting (wordOf continuation message dvcc))) coded₀ coded r

@@ -9,7 +9,7 @@ use Rattle.bits.specs.declared.arguments.Arguments.{Arguments}
 use Rattle.facch_interleaver.specs.declared.WordHalf.{WordHalf}
 use Rattle.facch_interleaver.specs.declared.WordHalf.the-variants.{Start, End}
 use Rattle.bits.specs.declared.Wrote.{Wrote}
-use Rattle.bits.specs.Calls.{Written}
+use Rattle.bits.specs.Calls.{WriteCall}
 use Rattle.interleaving.specs.Slots.{carried, collected, byRow}
 use Rattle.interleaving.specs.Calls.{twoArguments}
 
@@ -85,10 +85,10 @@ abbrev pub oneArguments : List ℕ → ℕ → Arguments
 oneArguments a room = bitsAndRoom 260 a 260 room
 
 abbrev pub Interleaving : List ℕ → List ℕ → List ℕ → List ℕ → Wrote → Type 0
-Interleaving previous current slot₀ slot r = Written (twoArguments previous current (length slot₀)) (interleaved 0 previous current) slot₀ slot r
+Interleaving previous current slot₀ slot r = WriteCall (twoArguments previous current (length slot₀)) (interleaved 0 previous current) slot₀ slot r
 
 abbrev pub Deinterleaving : List ℕ → List ℕ → List ℕ → List ℕ → Wrote → Type 0
-Deinterleaving first second coded₀ coded r = Written (twoArguments first second (length coded₀)) (deinterleaved 0 first second) coded₀ coded r
+Deinterleaving first second coded₀ coded r = WriteCall (twoArguments first second (length coded₀)) (deinterleaved 0 first second) coded₀ coded r
 
 abbrev pub Observing : List ℕ → WordHalf → List ℕ → List ℕ → Wrote → Type 0
-Observing slot half coded₀ coded r = Written (oneArguments slot (length coded₀)) (observed half slot) coded₀ coded r
+Observing slot half coded₀ coded r = WriteCall (oneArguments slot (length coded₀)) (observed half slot) coded₀ coded r

@@ -39,9 +39,9 @@ module _ {A : Type 0} (d : A) where
     odd-row previous e = interleaved-at d previous word (wireOf place) (wire-below place h) ∙ carried _ (ap (λ (b : Bool). cond b previous word) e)
 
   -- ---- two slots
-  pub round-trip : (previous word next : List A) → length word ≡ 260 → deinterleaved d (interleaved d previous word) (interleaved d word next) ≡ word
+  pub facch-slots-round-trip : (previous word next : List A) → length word ≡ 260 → deinterleaved d (interleaved d previous word) (interleaved d word next) ≡ word
   unfolding interleaved deinterleaved
-  round-trip previous word next size = between-two d placeAt wireOf wire-below place-of-wire previous word next size
+  facch-slots-round-trip previous word next size = between-two d placeAt wireOf wire-below place-of-wire previous word next size
 
 -- the same of the calls
 pub slotted : (previous current : List ℕ) (r : Wrote) {slot₀ slot : List ℕ} → twoArguments previous current (length slot₀) ≡ Passed → Interleaving previous current slot₀ slot r
@@ -51,15 +51,15 @@ slotted previous current r {slot₀} {slot} f i =
     let s : slot ≡ interleaved 0 previous current = i .done f .1 in
     (s, ap length s ∙ interleaved-length 0 previous current, ap allBinary s ∙ binary-interleaved previous current (b .0) (b .1))
 
-pub calls-round-trip : (previous word next : List ℕ) (r r′ r″ : Wrote) {slot₀ slot slot₀′ slot′ coded₀ coded : List ℕ}
+pub facch-slot-calls-round-trip : (previous word next : List ℕ) (r r′ r″ : Wrote) {slot₀ slot slot₀′ slot′ coded₀ coded : List ℕ}
     → twoArguments previous word (length slot₀) ≡ Passed → twoArguments word next (length slot₀′) ≡ Passed → length coded₀ ≡ 260
     → Interleaving previous word slot₀ slot r → Interleaving word next slot₀′ slot′ r′ → Deinterleaving slot slot′ coded₀ coded r″
     → (wroteAnswer r″ ≡ accepted tt) × (coded ≡ word)
-calls-round-trip previous word next r r′ r″ {slot₀} {slot} {slot₀′} {slot′} {coded₀} {coded} f f′ room i i′ e =
+facch-slot-calls-round-trip previous word next r r′ r″ {slot₀} {slot} {slot₀′} {slot′} {coded₀} {coded} f f′ room i i′ e =
     let s = slotted previous word r f i in
     let s′ = slotted word next r′ f′ i′ in
     let d = e .done (two-passed 260 slot 260 slot′ 260 (length coded₀) (s .1) (s′ .1) room (s .2) (s′ .2)) in
-    (d .0, d .1 ∙ ap₂ (deinterleaved 0) (s .0) (s′ .0) ∙ round-trip 0 previous word next (passed-two 260 previous 260 word 260 (length slot₀) refl f .0 .1))
+    (d .0, d .1 ∙ ap₂ (deinterleaved 0) (s .0) (s′ .0) ∙ facch-slots-round-trip 0 previous word next (passed-two 260 previous 260 word 260 (length slot₀) refl f .0 .1))
 
 -- ---- one slot
 -- the first of a word's slots carries the places in its odd rows, the second those in its even rows

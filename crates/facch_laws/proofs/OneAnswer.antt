@@ -44,9 +44,9 @@ module _ {received : List ℕ} {dvcc : ℕ} {a b : Answer Content} where
           let none : Ambiguous (OfLength 65) (weight received) → ⊥ = λ m. n (p .unclear (omega arith) m) in
           one-settled none (p .settled (omega arith) none) (q .settled (omega arith) none)
 
-pub one-answer : (arguments : Arguments) {received : List ℕ} {dvcc : ℕ} {a b : Answer Content} → Decoding arguments received dvcc a → Decoding arguments received dvcc b → a ≡ b
-one-answer Passed p q = one-answered (p .answered refl) (q .answered refl)
-one-answer (Refused why) p q = p .declined why refl ∙ sym (q .declined why refl)
+pub facch-one-answer : (arguments : Arguments) {received : List ℕ} {dvcc : ℕ} {a b : Answer Content} → Decoding arguments received dvcc a → Decoding arguments received dvcc b → a ≡ b
+facch-one-answer Passed p q = one-answered (p .answered refl) (q .answered refl)
+facch-one-answer (Refused why) p q = p .declined why refl ∙ sym (q .declined why refl)
 
 -- `decode` answers bits as `decode_erased` does
 pub same-calls : {coded : List ℕ} {dvcc : ℕ} {a b : Answer Content} → allBinary coded ≡ true → Decoding (decodeArguments coded) coded dvcc a → Decoding (erasedArguments coded) coded dvcc b → a ≡ b
@@ -54,4 +54,4 @@ same-calls {coded} {dvcc} {a} e p q =
     let binary : binaryOf coded ≡ Passed = ap (λ (t : Bool). cond t Passed (Refused refusal.Symbol)) e in
     let erasable : erasableOf coded ≡ Passed = ap (λ (t : Bool). cond t Passed (Refused refusal.Symbol)) (binary-erasable coded e) in
     let same : decodeArguments coded ≡ erasedArguments coded = ap (firstRefusal (exactOf 260 (length coded))) (binary ∙ sym erasable) in
-    one-answer (erasedArguments coded) (subst (λ (l : Arguments). Decoding l coded dvcc a) same p) q
+    facch-one-answer (erasedArguments coded) (subst (λ (l : Arguments). Decoding l coded dvcc a) same p) q

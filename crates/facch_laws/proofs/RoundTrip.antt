@@ -124,16 +124,16 @@ module _ (continuation : Bool) (message dvcc : ℕ) where
     written = e .done (ap₂ firstRefusal (exact-passed 260 (length coded₀) room) (below-passed (2 ^ 48) message h)) .1
 
     -- what `encode` writes, `decode` reads
-    pub round-trip : {answer : Answer Content} → Decoding (decodeArguments coded) coded dvcc answer
+    pub facch-round-trip : {answer : Answer Content} → Decoding (decodeArguments coded) coded dvcc answer
         → answer ≡ accepted (record { continuation = continuation; message = message; corrected = 0; observed = 260 })
-    round-trip {answer} d =
+    facch-round-trip {answer} d =
         own-bits (decodeArguments (bytes (tailBiting (wordOf continuation message dvcc)))) (passed-decode (wordOf continuation message dvcc) word-length) h
         (subst (λ (l : List ℕ). Decoding (decodeArguments l) l dvcc answer) written d)
 
     -- and so does `decode_erased`
-    pub round-trip-erased : {answer : Answer Content} → Decoding (erasedArguments coded) coded dvcc answer
+    pub facch-round-trip-erased : {answer : Answer Content} → Decoding (erasedArguments coded) coded dvcc answer
         → answer ≡ accepted (record { continuation = continuation; message = message; corrected = 0; observed = 260 })
-    round-trip-erased {answer} d =
+    facch-round-trip-erased {answer} d =
         own-bits (erasedArguments (bytes (tailBiting (wordOf continuation message dvcc)))) (passed-erased (wordOf continuation message dvcc) word-length) h
         (subst (λ (l : List ℕ). Decoding (erasedArguments l) l dvcc answer) written d)
 

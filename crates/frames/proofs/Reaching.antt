@@ -8,11 +8,11 @@ use Rattle.text.proofs.Stored.{put-nothing}
 use Rattle.session.specs.declared.Fed.{Fed}
 use Rattle.session.specs.declared.Session.{Session}
 use Rattle.session.specs.Output.{fresh}
-use Rattle.session.specs.Totals.{noWord}
-use Rattle.session.specs.Scanning.{Scan, seen, heard}
+use Rattle.session.specs.Totals.{nothingAdded}
+use Rattle.session.specs.Scanning.{Scan, seen, allSaid}
 use Rattle.session.specs.Contracts.{PieceFed, atStart, begun, viewOf}
 use Rattle.session.proofs.Whole.{seen-then}
-use Rattle.frames.specs.Turns.{Reached, Turned}
+use Rattle.frames.specs.Pieces.{Reached, PieceAnswered}
 
 zeros : (n d : ℕ) → getD (replicate n 0) d 0 ≤ 0
 zeros zero d = omega arith
@@ -20,14 +20,14 @@ zeros (suc n) zero = omega arith
 zeros (suc n) (suc d) = zeros n d
 
 begun-reached : (line : List ℕ) → length line ≡ 137 → Reached begun line (replicate 256 0)
-unfolding begun fresh noWord viewOf atStart seen
+unfolding begun fresh nothingAdded viewOf atStart seen
 begun-reached line long =
     record {
       input = [];
       view = refl;
-      sound =
+      fits =
           record {
-            modest = record { words = omega arith; corrected = omega arith; coded = omega arith; codes = length-replicate {A = ℕ} 256 0; each = zeros 256 };
+            bounds = record { words = omega arith; corrected = omega arith; coded = omega arith; codes = length-replicate {A = ℕ} 256 0; each = zeros 256 };
             long = long;
             within = omega arith;
           };
@@ -43,10 +43,10 @@ module _ {s : Session} {line counts : List ℕ} (r : Reached s line counts) wher
       record {
         input = r .input ++ piece;
         view = p .view ∙ ap (λ (c : Scan). seen c piece) (r .view) ∙ sym (seen-then (r .input) piece atStart);
-        sound = p .sound;
+        fits = p .fits;
       }
 
   -- nothing was read
-  pub nothing-turned : (piece out : List ℕ) → Turned s piece line line counts counts out out s
-  unfolding seen heard
-  nothing-turned piece out = record { n = 0; end = 0; fed = record { view = refl; text = put-nothing out 0; room = omega arith; sound = r .sound } }
+  pub nothing-answered : (piece out : List ℕ) → PieceAnswered s piece line line counts counts out out s
+  unfolding seen allSaid
+  nothing-answered piece out = record { n = 0; end = 0; fed = record { view = refl; text = put-nothing out 0; room = omega arith; fits = r .fits } }

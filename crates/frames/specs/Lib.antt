@@ -1,2 +1,2 @@
 -- The turns of the program.
-pub mod Turns
+pub mod Pieces

@@ -9,9 +9,9 @@ use session::pieces::feed;
 use session::start;
 ghost use mathlib.Core.Path.{_≡_};
 ghost use lib.ListN.{length, replicate};
-ghost use Rattle.frames.specs.Turns.{Reached, Turned};
+ghost use Rattle.frames.specs.Pieces.{Reached, PieceAnswered};
 
-struct Turn {
+struct Piece {
     session: Session,
     // Whether there may be more to read.
     goes_on: bool,
@@ -33,21 +33,21 @@ fn output_buffer() -> [u8; 409600]
 }
 
 // Reads once, and writes what the bytes are answered. With a million lines read no more is wanted.
-fn take_turn(
+fn answer_piece(
     session: Session,
     piece: &mut [u8],
     line: &mut [u8],
     counts: &mut [u32],
     out: &mut [u8],
-) -> Turn
+) -> Piece
     requires { ⌜ Reached session (now line) (now counts) × (16384 ≡ length (now piece)) × (409600 ≡ length (now out)) ⌝ }
-    ensures { λ r. ⌜ Turned session (now (piece .exit)) (now (line .entry)) (now (line .exit)) (now (counts .entry)) (now (counts .exit)) (now (out .entry)) (now (out .exit)) (r .session) ⌝ }
+    ensures { λ r. ⌜ PieceAnswered session (now (piece .exit)) (now (line .entry)) (now (line .exit)) (now (counts .entry)) (now (counts .exit)) (now (out .entry)) (now (out .exit)) (r .session) ⌝ }
     ensures { λ r. ⌜ Reached (r .session) (now (line .exit)) (now (counts .exit)) × (16384 ≡ length (now (piece .exit))) × (409600 ≡ length (now (out .exit))) ⌝ }
 {
     let got = libc::read(STDIN_FILENO, piece);
     let n = io::count(got, piece);
     if n == 0 {
-        return Turn {
+        return Piece {
             session,
             goes_on: false,
             failed: got < 0,
@@ -57,7 +57,7 @@ fn take_turn(
     let next = fed.session;
     let end = fed.at;
     let wrote = io::write_all(STDOUT_FILENO, &out[..end]);
-    Turn {
+    Piece {
         session: next,
         goes_on: bits::both(wrote, 0 < next.left),
         failed: !wrote,
@@ -65,7 +65,7 @@ fn take_turn(
 }
 
 // Reads to the end of the input, or until a read or a write fails. Nothing says that an input ends, so the turns are counted.
-fn listen(piece: &mut [u8], line: &mut [u8], counts: &mut [u32], out: &mut [u8]) -> Turn
+fn listen(piece: &mut [u8], line: &mut [u8], counts: &mut [u32], out: &mut [u8]) -> Piece
     requires { ⌜ (length (now line) ≡ 137) × (now counts ≡ replicate 256 0) × (16384 ≡ length (now piece)) × (409600 ≡ length (now out)) ⌝ }
     ensures { λ r. ⌜ Reached (r .session) (now (line .exit)) (now (counts .exit)) × (409600 ≡ length (now (out .exit))) ⌝ }
 {
@@ -73,14 +73,14 @@ fn listen(piece: &mut [u8], line: &mut [u8], counts: &mut [u32], out: &mut [u8])
     let mut turns = u64::MAX;
     while turns > 0 {
         turns -= 1;
-        let done = take_turn(session, piece, line, counts, out);
+        let done = answer_piece(session, piece, line, counts, out);
         if !done.goes_on {
             return done;
         }
         let next = done.session;
         session = next;
     }
-    Turn {
+    Piece {
         session,
         goes_on: false,
         failed: true,

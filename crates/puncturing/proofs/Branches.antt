@@ -11,9 +11,9 @@ use Rattle.bits.specs.Bits.{bit, bits, allBinary, disagreements, tally}
 use Rattle.bits.proofs.Binary.{binary-at, differ-le}
 use Rattle.bits.proofs.Filled.{Filling}
 use Rattle.coding.specs.Codes.{acelp}
+use Rattle.viterbi.proofs.Branches.{distance-le}
 use Rattle.search.specs.Forward.{Rows, branchBy}
 use Rattle.trellis.specs.Numbering.{newestLow}
-use Rattle.search.specs.Row.{outputAt}
 use Rattle.trellis.specs.Search.{FoundFirst}
 use Rattle.trellis.specs.Words.{Leads, Terminated, wordMetric}
 use Rattle.trellis.specs.declared.Outcome.{Outcome}
@@ -24,9 +24,9 @@ use Rattle.search.proofs.ByPlace.{RowAt, metric-coded, outputsAt}
 use Rattle.viterbi.specs.Rows.{DistancesTo, distanceAt, pairOf}
 use Rattle.puncturing.specs.Punctured.{weight}
 use Rattle.puncturing.specs.Rows.{StepRows, SymbolsTo}
-use Rattle.puncturing.proofs.Gaps.{Heard, heard, silence, cost, sentMask, sent-kept, spread, tally-spread}
+use Rattle.puncturing.proofs.Gaps.{Observation, observed, unobserved, cost, sentMask, sent-kept, spread, tally-spread}
 use Rattle.puncturing.proofs.MaskSteps.{silent, pairAt, mask-rank}
-use Rattle.puncturing.proofs.Received.{heardAt, received}
+use Rattle.puncturing.proofs.Received.{observedAt, received}
 
 -- ---- the rows: four copied, and zeros
 pub step-rows : {rows : List (List ℕ)} {k : ℕ} → Filling (λ i row. DistancesTo (bit (i / 2)) (bit (i % 2)) row 64) [] 5 rows k → 4 ≤ k
@@ -39,15 +39,12 @@ step-rows f h z =
     }
 
 -- ---- a place of a row
-distance-le : (place : ℕ) (first second : Bool) → distanceAt place first second ≤ 2
-distance-le place first second = omega (arith, differ-le (outputAt 0b101011 place) first, differ-le (outputAt 0b111101 place) second)
-
-sent-tally : (place : ℕ) (first second : Bool) (r : List Heard)
-    → distanceAt place first second ≡ tally cost (outputsAt acelp place) (heard first ∷ heard second ∷ r)
+sent-tally : (place : ℕ) (first second : Bool) (r : List Observation)
+    → distanceAt place first second ≡ tally cost (outputsAt acelp place) (observed first ∷ observed second ∷ r)
 unfolding tally
 sent-tally place first second r = omega arith
 
-silent-tally : (place : ℕ) (r : List Heard) → 0 ≡ tally cost (outputsAt acelp place) (silence ∷ silence ∷ r)
+silent-tally : (place : ℕ) (r : List Observation) → 0 ≡ tally cost (outputsAt acelp place) (unobserved ∷ unobserved ∷ r)
 unfolding tally
 silent-tally place r = refl
 
@@ -72,19 +69,19 @@ module _ (coded symbols : List ℕ) (rows : List (List ℕ)) (enough : length co
   row : (k : ℕ) → k < 108 → RowAt acelp cost (spread sentMask (bits coded)) rows symbols k
   row k h place low = by (silent k) refl ∙ ap (tally cost (outputsAt acelp place)) (sym (received (bits coded) k h))
     where
-      rest : List Heard
+      rest : List Observation
       rest = drop (k * 2 + 2) (spread sentMask (bits coded))
 
       by : (s : Bool) → silent k ≡ s → getD (getD rows (getD symbols k 0) []) place 0
-          ≡ tally cost (outputsAt acelp place) (heardAt (bits coded) (silent k) (pairAt k) ∷ heardAt (bits coded) (silent k) (pairAt k + 1) ∷ rest)
+          ≡ tally cost (outputsAt acelp place) (observedAt (bits coded) (silent k) (pairAt k) ∷ observedAt (bits coded) (silent k) (pairAt k + 1) ∷ rest)
       by true e =
           ap (λ (i : ℕ). getD (getD rows i []) place 0) (none k h e) ∙ passed .free place low ∙ silent-tally place rest
-          ∙ ap (λ (s : Bool). tally cost (outputsAt acelp place) (heardAt (bits coded) s (pairAt k) ∷ heardAt (bits coded) s (pairAt k + 1) ∷ rest)) (sym e)
+          ∙ ap (λ (s : Bool). tally cost (outputsAt acelp place) (observedAt (bits coded) s (pairAt k) ∷ observedAt (bits coded) s (pairAt k + 1) ∷ rest)) (sym e)
       by false e =
           passed .pairs (getD symbols k 0) (pair k h e .0) place low
           ∙ ap₂ (λ (p q : Bool). distanceAt place p q) (pair k h e .1) (pair k h e .2)
           ∙ sent-tally place (getD (bits coded) (pairAt k) false) (getD (bits coded) (pairAt k + 1) false) rest
-          ∙ ap (λ (s : Bool). tally cost (outputsAt acelp place) (heardAt (bits coded) s (pairAt k) ∷ heardAt (bits coded) s (pairAt k + 1) ∷ rest)) (sym e)
+          ∙ ap (λ (s : Bool). tally cost (outputsAt acelp place) (observedAt (bits coded) s (pairAt k) ∷ observedAt (bits coded) s (pairAt k + 1) ∷ rest)) (sym e)
 
   pub metric-weight : (u : List Bool) → length u ≤ 108 → wordMetric newestLow (branchBy rows symbols) 0 u ≡ weight (bits coded) u
   unfolding weight
@@ -94,8 +91,8 @@ module _ (coded symbols : List ℕ) (rows : List (List ℕ)) (enough : length co
       ∙ ap (λ (l : List Bool). disagreements l (bits coded)) (sym (sent-kept _))
 
   -- no branch metric is above two
-  pub modest : Rows rows symbols
-  modest =
+  pub small-rows : Rows rows symbols
+  small-rows =
       record {
         symbol = λ k h. by k (omega arith) (silent k) refl;
         small = λ i g hi hg. elim (ℕ-discrete i 4) [

@@ -60,15 +60,15 @@ sent-kept l =
     ∙ ap (part 108) (ap (kept (block [])) (drop-drop 54 108 l) ∙ kept-block [] (drop 162 l) ∙ append-nil _))))
 
 -- ---- what was received, spread over the places
-pub data Heard : Type 0 where
-  heard : Bool → Heard
-  silence : Heard
+pub data Observation : Type 0 where
+  observed : Bool → Observation
+  unobserved : Observation
 
-unfoldable pub spread : List Bool → List Bool → List Heard
+unfoldable pub spread : List Bool → List Bool → List Observation
 spread [] r = []
-spread (false ∷ mask) r = silence ∷ spread mask r
-spread (true ∷ mask) [] = heard false ∷ spread mask []
-spread (true ∷ mask) (y ∷ r) = heard y ∷ spread mask r
+spread (false ∷ mask) r = unobserved ∷ spread mask r
+spread (true ∷ mask) [] = observed false ∷ spread mask []
+spread (true ∷ mask) (y ∷ r) = observed y ∷ spread mask r
 
 -- how many places are kept of those before a place
 unfoldable pub rank : List Bool → ℕ → ℕ
@@ -83,22 +83,22 @@ spread-length (false ∷ mask) r = ap suc (spread-length mask r)
 spread-length (true ∷ mask) [] = ap suc (spread-length mask [])
 spread-length (true ∷ mask) (y ∷ r) = ap suc (spread-length mask r)
 
-pub spread-at : (mask r : List Bool) (j : ℕ) → getD (spread mask r) j silence ≡ cond (getD mask j false) (heard (getD r (rank mask j) false)) silence
+pub spread-at : (mask r : List Bool) (j : ℕ) → getD (spread mask r) j unobserved ≡ cond (getD mask j false) (observed (getD r (rank mask j) false)) unobserved
 unfolding spread rank
 spread-at [] r j = refl
 spread-at (false ∷ mask) r zero = refl
-spread-at (false ∷ mask) r (suc j) = spread-at mask r j ∙ ap (λ (i : ℕ). cond (getD mask j false) (heard (getD r i false)) silence) (sym (zero-add _))
+spread-at (false ∷ mask) r (suc j) = spread-at mask r j ∙ ap (λ (i : ℕ). cond (getD mask j false) (observed (getD r i false)) unobserved) (sym (zero-add _))
 spread-at (true ∷ mask) [] zero = refl
 spread-at (true ∷ mask) [] (suc j) = spread-at mask [] j
 spread-at (true ∷ mask) (y ∷ r) zero = refl
 spread-at (true ∷ mask) (y ∷ r) (suc j) =
     let e : suc (rank mask j) ≡ 1 + rank mask j = omega arith in
-    spread-at mask r j ∙ ap (λ (i : ℕ). cond (getD mask j false) (heard (getD (y ∷ r) i false)) silence) e
+    spread-at mask r j ∙ ap (λ (i : ℕ). cond (getD mask j false) (observed (getD (y ∷ r) i false)) unobserved) e
 
 -- ---- a silent place costs nothing
-abbrev pub cost : Bool → Heard → ℕ
-cost b (heard x) = differ b x
-cost b silence = 0
+abbrev pub cost : Bool → Observation → ℕ
+cost b (observed x) = differ b x
+cost b unobserved = 0
 
 pub tally-spread : (mask l r : List Bool) → rank mask (length mask) ≤ length r → tally cost l (spread mask r) ≡ disagreements (kept mask l) r
 unfolding spread kept rank tally

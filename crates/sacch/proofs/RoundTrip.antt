@@ -26,9 +26,9 @@ module _ (continuation : Bool) (message dvcc : ℕ) where
       ap (λ (n : ℕ). record { continuation = continuation; message = n; corrected = 0; ending = packed (take 5 (reverse (wordOf continuation message dvcc))) })
       (made-message (continuation ∷ false ∷ []) message dvcc refl h)
 
-  pub round-trip : (s : ℕ) → s < 32 → message < 2 ^ 48 → decodeOf (coded dcch (memoryHigh s) (wordOf continuation message dvcc)) dvcc
+  pub sacch-round-trip : (s : ℕ) → s < 32 → message < 2 ^ 48 → decodeOf (coded dcch (memoryHigh s) (wordOf continuation message dvcc)) dvcc
       ≡ accepted (record { continuation = continuation; message = message; corrected = 0; ending = packed (take 5 (reverse (wordOf continuation message dvcc))) })
   unfolding madeOf
-  round-trip s hs h =
+  sacch-round-trip s hs h =
       as-sent s hs (wordOf continuation message dvcc) word-length dvcc
       ∙ taken-finished (wordOf continuation message dvcc) 0 dvcc refl (made-valid (continuation ∷ false ∷ []) message dvcc refl) ∙ ap accepted (content-own h)

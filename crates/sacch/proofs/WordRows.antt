@@ -26,7 +26,7 @@ use Rattle.sacch_decoder.specs.Decoding.{decodeOf}
 use Rattle.sacch_receiver.specs.Stored.{rowBits, decodeRows}
 use Rattle.sacch.specs.Calls.{EncoderCall, Given, Words, no-words, sent, refused-word, refused-bits}
 use Rattle.sacch.specs.Listening.{rowsFrom, memoryFrom, sixesFor, sixesForAll, wordSent}
-use Rattle.sacch.proofs.RoundTrip.{round-trip}
+use Rattle.sacch.proofs.RoundTrip.{sacch-round-trip}
 
 -- ---- a word and its sixes
 -- the bits of sixes one after the other
@@ -109,7 +109,7 @@ module _ (s dvcc : ℕ) (g : Given) (h : s < 32) where
       ≡ accepted (record { continuation = g .continuation; message = g .message; corrected = 0; ending = memoryFrom s (sixesFor dvcc g) })
   unfolding decodeRows
   window-decodes m =
-      ap (λ (b : List Bool). decodeOf b dvcc) window-bits ∙ round-trip (g .continuation) (g .message) dvcc s h m
+      ap (λ (b : List Bool). decodeOf b dvcc) window-bits ∙ sacch-round-trip (g .continuation) (g .message) dvcc s h m
       ∙ ap (λ (n : ℕ). accepted (record { continuation = g .continuation; message = g .message; corrected = 0; ending = n })) window-ending
 
 -- ---- words one after the other

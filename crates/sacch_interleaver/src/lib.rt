@@ -6,13 +6,13 @@ ghost use Prim.Native.Nat.{ℕ, _+_, _%_, _^_, _<_, _≤_};
 ghost use lib.ListN.{getD, length};
 ghost use Rattle.sacch_interleaver.specs.Diagonal.{allTwelve, fieldOf, rowOf};
 
-// The weight of a bit that is `turn` places above `place`, round in twelve.
-fn weight(place: usize, turn: usize) -> u16
-    requires { ⌜ (place < 12) × (turn ≤ 12) ⌝ }
-    ensures { λ r. ⌜ r ≡ 2 ^ ((place + turn) % 12) ⌝ }
+// The weight of a bit that is `shift` places above `place`, round in twelve.
+fn bit_value(place: usize, shift: usize) -> u16
+    requires { ⌜ (place < 12) × (shift ≤ 12) ⌝ }
+    ensures { λ r. ⌜ r ≡ 2 ^ ((place + shift) % 12) ⌝ }
 {
     let first: u16 = 1 << place;
-    ((first << turn) % 4096) | (first >> (12 - turn))
+    ((first << shift) % 4096) | (first >> (12 - shift))
 }
 
 // A ring laid out from its oldest on, with room for the numbers of eleven slots more.
@@ -27,14 +27,14 @@ pub fn aged(ring: &[u16], next: usize) -> [u16; 23]
     run
 }
 
-// The field of the newest row's slot, from the last twelve rows; `next` is the place of the oldest. The weights turn, and the rows stay.
+// The field of the newest row's slot, from the last twelve rows; `next` is the place of the oldest. The weights shift, and the rows stay.
 pub fn field_among(rows: &[u16], next: usize) -> u16
     requires { ⌜ (length (now rows) ≡ 12) × (next < 12) ⌝ }
     ensures { λ r. ⌜ r ≡ fieldOf (now (rows .entry)) next ⌝ }
 {
     let mut field: u16 = 0;
     for i in 0..12 {
-        field = field | (rows[i] & weight(i, 12 - next));
+        field = field | (rows[i] & bit_value(i, 12 - next));
     }
     field
 }
@@ -54,7 +54,7 @@ pub fn row_of(fields: [u16; 12], next: usize) -> u16
 {
     let mut row: u16 = 0;
     for i in 0..12 {
-        row = row | (fields[i] & weight(11 - i, next));
+        row = row | (fields[i] & bit_value(11 - i, next));
     }
     row
 }

@@ -11,9 +11,9 @@ use Rattle.sacch_receiver.specs.Receiver.{receiverFits}
 use Rattle.sacch_receiver.specs.declared.SacchReceiver.{SacchReceiver}
 
 -- every test made, from the last to the first
-pub tests-all : (r : SacchReceiver) {lock stored held phase available row received field : Bool}
-    → lock ≡ lockFits (r .lock) → stored ≡ (allTwelve (r .fields) && allTwelve (r .rows)) → held ≡ (lock && stored)
-    → phase ≡ (ltb (r .phase) 11 && held) → available ≡ (ltb (r .available) 12 && phase) → row ≡ (ltb (r .«row_cursor») 11 && available)
+pub tests-all : (r : SacchReceiver) {lock stored kept phase available row received field : Bool}
+    → lock ≡ lockFits (r .lock) → stored ≡ (allTwelve (r .fields) && allTwelve (r .rows)) → kept ≡ (lock && stored)
+    → phase ≡ (ltb (r .phase) 11 && kept) → available ≡ (ltb (r .available) 12 && phase) → row ≡ (ltb (r .«row_cursor») 11 && available)
     → received ≡ (ltb (r .received) 13 && row) → field ≡ (ltb (r .«field_cursor») 12 && received) → field ≡ receiverFits r
 unfolding receiverFits
 tests-all r a b c d e f g h = simp cond-and cc

@@ -18,7 +18,7 @@ use Rattle.coding.specs.Registers.{memoryLow}
 use Rattle.coding.proofs.Coded.{short}
 use Rattle.search.specs.Forward.{branchBy}
 use Rattle.trellis.specs.Numbering.{newestLow}
-use Rattle.search.specs.Row.{placeOf, registerAt, outputAt}
+use Rattle.search.specs.Row.{placeOf, registerAt, tapsOf, outputAt}
 use Rattle.trellis.specs.Words.{branchOf, wordMetric}
 use Rattle.trellis.proofs.Distance.{distance}
 use Rattle.trellis.proofs.Registers.{register-low, same-numbers}
@@ -44,11 +44,6 @@ pub place-cost : {B : Type 0} (f : Bool → B → ℕ) (taps place x : ℕ) (rec
 place-cost f taps place x received a ex ea = ea ∙ ap (λ (p : Bool). f p received) (ap bit ex ∙ bit-byte (outputAt taps place))
 
 -- ---- parities and tapped inputs
--- a generator as a number, the coefficient of D^0 lowest
-abbrev pub tapsOf : List Bool → ℕ
-tapsOf [] = 0
-tapsOf (g ∷ gs) = tapsOf gs * 2 + byte g
-
 -- the n lowest bits of a number, the lowest first
 abbrev lowBits : ℕ → ℕ → List Bool
 lowBits zero r = []

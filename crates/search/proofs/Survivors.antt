@@ -68,7 +68,7 @@ module _ (branch : ℕ → ℕ → Bool → ℕ) (start : List ℕ) where
       (λ k s hk hs. back ps k s hs (λ j hj. rows j (omega arith)))
 
   -- one byte's part of the tie
-  module _ (held n t : ℕ) (ht : t < 32) where
+  module _ (since n t : ℕ) (ht : t < 32) where
     abbrev lower : ℕ
     lower = candidate wholes X n t false
 
@@ -76,7 +76,7 @@ module _ (branch : ℕ → ℕ → Bool → ℕ) (start : List ℕ) where
     upper = candidate wholes X n t true
 
     abbrev rest : Bool
-    rest = tie X held n (predLow t (decision wholes X n t))
+    rest = tie X since n (predLow t (decision wholes X n t))
 
     abbrev mark : Bool
     mark = leb 32 (byteOf lower upper (predLow t false))
@@ -85,31 +85,31 @@ module _ (branch : ℕ → ℕ → Bool → ℕ) (start : List ℕ) where
     neither true = refl
     neither false = refl
 
-    first-mark : Dec (lower ≡ upper) → Dec (held ≤ n) → cond (cond (leb held n) mark false) true rest ≡ tie X held (suc n) t
+    first-mark : Dec (lower ≡ upper) → Dec (since ≤ n) → cond (cond (leb since n) mark false) true rest ≡ tie X since (suc n) t
     first-mark (yes e) (yes h) =
-        ap₂ (λ (l m : Bool). cond (cond l m false) true rest) (le-leb held n h) (mark-even lower upper t e)
-        ∙ sym (opt.tie-even X held n t e ∙ le-leb held n h)
+        ap₂ (λ (l m : Bool). cond (cond l m false) true rest) (le-leb since n h) (mark-even lower upper t e)
+        ∙ sym (opt.tie-even X since n t e ∙ le-leb since n h)
     first-mark (yes e) (no h) =
-        ap (λ (l : Bool). cond (cond l mark false) true rest) (lt-leb held n (omega arith))
-        ∙ opt.tie-early X held n (predLow t (decision wholes X n t)) (omega arith)
-        ∙ sym (opt.tie-even X held n t e ∙ lt-leb held n (omega arith))
+        ap (λ (l : Bool). cond (cond l mark false) true rest) (lt-leb since n (omega arith))
+        ∙ opt.tie-early X since n (predLow t (decision wholes X n t)) (omega arith)
+        ∙ sym (opt.tie-even X since n t e ∙ lt-leb since n (omega arith))
     first-mark (no ne) d =
-        ap (λ (m : Bool). cond (cond (leb held n) m false) true rest) (mark-odd lower upper t ht ne)
-        ∙ ap (λ (m : Bool). cond m true rest) (neither (leb held n))
-        ∙ sym (opt.tie-odd X held n t ne)
+        ap (λ (m : Bool). cond (cond (leb since n) m false) true rest) (mark-odd lower upper t ht ne)
+        ∙ ap (λ (m : Bool). cond m true rest) (neither (leb since n))
+        ∙ sym (opt.tie-odd X since n t ne)
 
-    tie-step : (acc : Bool) → cond (tieWith acc (byteOf lower upper (predLow t false)) (leb held n)) true rest ≡ cond acc true (tie X held (suc n) t)
+    tie-step : (acc : Bool) → cond (tieWith acc (byteOf lower upper (predLow t false)) (leb since n)) true rest ≡ cond acc true (tie X since (suc n) t)
     tie-step true = refl
-    tie-step false = first-mark (ℕ-discrete lower upper) (decLe held n)
+    tie-step false = first-mark (ℕ-discrete lower upper) (decLe since n)
 
   -- what is tiedBytes is the survivor's tie
-  pub tied-bytes : (ps : List (List ℕ)) (held n t : ℕ) (acc : Bool) → t < 32 → BytesTo X ps n
-      → tiedBytes ps held n t acc ≡ cond acc true (tie X held n t)
+  pub tied-bytes : (ps : List (List ℕ)) (since n t : ℕ) (acc : Bool) → t < 32 → BytesTo X ps n
+      → tiedBytes ps since n t acc ≡ cond acc true (tie X since n t)
   unfolding tiedBytes tie
-  tied-bytes ps held zero t true h rows = refl
-  tied-bytes ps held zero t false h rows = refl
-  tied-bytes ps held (suc n) t acc h rows =
+  tied-bytes ps since zero t true h rows = refl
+  tied-bytes ps since zero t false h rows = refl
+  tied-bytes ps since (suc n) t acc h rows =
       let p : ℕ = predLow t (decision wholes X n t) in
-      ap₂ (λ (s x : ℕ). tiedBytes ps held n s (tieWith acc x (leb held n))) (back ps n t h rows) (rows n (omega arith) t h)
-      ∙ tied-bytes ps held n p _ (register-low .pred-below t (decision wholes X n t) h) (λ j hj. rows j (omega arith))
-      ∙ tie-step held n t h acc
+      ap₂ (λ (s x : ℕ). tiedBytes ps since n s (tieWith acc x (leb since n))) (back ps n t h rows) (rows n (omega arith) t h)
+      ∙ tied-bytes ps since n p _ (register-low .pred-below t (decision wholes X n t) h) (λ j hj. rows j (omega arith))
+      ∙ tie-step since n t h acc

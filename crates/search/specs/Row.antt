@@ -1,7 +1,7 @@
 -- A row of 64 branch metrics: its layout, and the output bits of a code in it. A state has its newest input lowest.
 use mathlib.Core.Path.{_≡_}
 use mathlib.Core.Bool.{Bool}
-use mathlib.Core.List.{List}
+use mathlib.Core.List.{List, [], _∷_}
 use Prim.Native.Nat.{ℕ, _+_, _*_, _/_, _%_, _<_}
 use lib.Bits.{bitAnd}
 use lib.Count.{ones}
@@ -22,7 +22,16 @@ layout = listed 64 (λ (register : ℕ). placeOf (register / 2) (bit register))
 unfoldable pub registerAt : ℕ → ℕ
 registerAt place = placeIn layout place
 
--- an output bit of a place: the taps have the coefficient of D^0 lowest
+-- a generator as a number, the coefficient of D^0 lowest
+abbrev pub tapsOf : List Bool → ℕ
+tapsOf [] = 0
+tapsOf (g ∷ gs) = tapsOf gs * 2 + byte g
+
+-- the generator i of a code
+abbrev pub taps : List (List Bool) → ℕ → ℕ
+taps code i = tapsOf (getD code i [])
+
+-- an output bit of a place
 unfoldable pub outputAt : ℕ → ℕ → Bool
 outputAt taps place = bit (ones (bitAnd (registerAt place) taps))
 

@@ -19,10 +19,10 @@ fn tie_so_far(tie: bool, byte: u8, late: bool) -> bool
 }
 
 // Reads the survivor into `end` back through the predecessor bytes: the input of each step is the lowest bit of the state that it enters.
-// Gives whether a byte of a step from `held` on has the mark of a tie.
-pub fn traceback(predecessors: &[[u8; 32]], end: usize, held: usize, bits: &mut [u8]) -> bool
+// Gives whether a byte of a step from `since` on has the mark of a tie.
+pub fn traceback(predecessors: &[[u8; 32]], end: usize, since: usize, bits: &mut [u8]) -> bool
     requires { ⌜ (end < 32) × (length (now bits) ≤ length (now predecessors)) ⌝ }
-    ensures { λ r. ⌜ Traced (now (predecessors .entry)) held (length (now (bits .entry))) end (now (bits .exit)) r ⌝ }
+    ensures { λ r. ⌜ Traced (now (predecessors .entry)) since (length (now (bits .entry))) end (now (bits .exit)) r ⌝ }
 {
     let mut state = end;
     let mut step = bits.len();
@@ -31,7 +31,7 @@ pub fn traceback(predecessors: &[[u8; 32]], end: usize, held: usize, bits: &mut 
         step -= 1;
         bits[step] = (state % 2) as u8;
         let byte = predecessors[step][state];
-        tie = tie_so_far(tie, byte, held <= step);
+        tie = tie_so_far(tie, byte, since <= step);
         state = wide(byte % 32);
     }
     tie

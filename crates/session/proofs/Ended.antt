@@ -13,12 +13,12 @@ use Rattle.session.specs.declared.replies.Replied.{Replied}
 use Rattle.session.specs.declared.Session.{Session}
 use Rattle.session.specs.declared.totals.Tally.{Tally}
 use Rattle.session.specs.Output.{next, said}
-use Rattle.session.specs.Totals.{addedBy, counted, summed, Light}
+use Rattle.session.specs.Totals.{addedBy, counted, summed, OneAnswer}
 use Rattle.session.specs.Replies.{replyTo}
 use Rattle.session.specs.Scanning.{ended, endSaid}
-use Rattle.session.specs.Contracts.{LineEnded, Modest, Sound, viewOf}
+use Rattle.session.specs.Contracts.{LineEnded, WithinBounds, SessionFits, viewOf}
 
--- ---- totals stay modest
+-- ---- totals stay bounds
 each-set : (l : List ℕ) (d v k m : ℕ) → getD l k 0 ≤ m → v ≤ m → getD (set l d v) k 0 ≤ m
 each-set [] d v k m h e = h
 each-set (x ∷ l) zero v zero m h e = e
@@ -26,7 +26,7 @@ each-set (x ∷ l) zero v (suc k) m h e = h
 each-set (x ∷ l) (suc d) v zero m h e = h
 each-set (x ∷ l) (suc d) v (suc k) m h e = each-set l d v k m h e
 
-modest-more : (t a : Tally) (left d : ℕ) (counts : List ℕ) → Light a → 0 < left → Modest t left counts → Modest (summed t a) (left - 1) (counted counts d (a .words))
+modest-more : (t a : Tally) (left d : ℕ) (counts : List ℕ) → OneAnswer a → 0 < left → WithinBounds t left counts → WithinBounds (summed t a) (left - 1) (counted counts d (a .words))
 unfolding summed counted
 modest-more t a left d counts p h m =
     record {
@@ -38,7 +38,7 @@ modest-more t a left d counts p h m =
     }
 
 -- ---- the end of a line: none may be read, or it is answered
-pub line-none : (s : Session) (line counts out : List ℕ) (at : ℕ) → s .left ≡ 0 → Sound s line counts
+pub line-none : (s : Session) (line counts out : List ℕ) (at : ℕ) → s .left ≡ 0 → SessionFits s line counts
     → LineEnded s line counts counts out out at (record { session = record { left = s .left; len = 0; receiver = s .receiver; tally = s .tally }; at = at })
 unfolding viewOf ended endSaid
 line-none s line counts out at e h =
@@ -46,12 +46,12 @@ line-none s line counts out at e h =
       view = rw e refl;
       text = rw e (put-nothing out at);
       room = omega arith;
-      sound = record { modest = h .modest; long = h .long; within = omega arith };
+      fits = record { bounds = h .bounds; long = h .long; within = omega arith };
     }
 
 pub line-some : (s : Session) (line counts counts′ out out′ : List ℕ) (at : ℕ) (p : Replied) (a t : Tally) (n : ℕ) → s .left ≢ 0
-    → p ≡ replyTo (s .receiver) (take (s .len) line) → a ≡ addedBy (p .reply) → Light a → t ≡ summed (s .tally) a
-    → counts′ ≡ counted counts (p .dvcc) (a .words) → Put out at (replyText (p .reply)) out′ n → n ≤ at + 25 → Sound s line counts
+    → p ≡ replyTo (s .receiver) (take (s .len) line) → a ≡ addedBy (p .reply) → OneAnswer a → t ≡ summed (s .tally) a
+    → counts′ ≡ counted counts (p .dvcc) (a .words) → Put out at (replyText (p .reply)) out′ n → n ≤ at + 25 → SessionFits s line counts
     → LineEnded s line counts counts′ out out′ at (record { session = record { left = s .left - 1; len = 0; receiver = p .receiver; tally = t }; at = n })
 unfolding viewOf ended endSaid next said
 line-some s line counts counts′ out out′ at p a t n some e ea light ft fc put room h =
@@ -59,9 +59,9 @@ line-some s line counts counts′ out out′ at p a t n some e ea light ft fc pu
       view = rw (ne-eqb (s .left) 0 some, ft, fc, ea, e) refl;
       text = rw (ne-eqb (s .left) 0 some, ← e) put;
       room = room;
-      sound =
+      fits =
           record {
-            modest = rw (ft, fc) (modest-more (s .tally) a (s .left) (p .dvcc) counts light (omega arith) (h .modest));
+            bounds = rw (ft, fc) (modest-more (s .tally) a (s .left) (p .dvcc) counts light (omega arith) (h .bounds));
             long = h .long;
             within = omega arith;
           };

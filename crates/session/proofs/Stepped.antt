@@ -11,10 +11,10 @@ use Rattle.text.specs.Lines.{LineEnd}
 use Rattle.session.specs.declared.Fed.{Fed}
 use Rattle.session.specs.declared.Session.{Session}
 use Rattle.session.specs.Output.{State}
-use Rattle.session.specs.Scanning.{Scan, ended, endSaid, byteSeen, byteSaid, seen, heard}
-use Rattle.session.specs.Contracts.{Kept, LineEnded, PartFed, PieceFed, Sound, partOf, viewOf}
-use Rattle.session.proofs.Whole.{scan, seen-then, heard-then}
-use Rattle.session.proofs.Gathered.{plain-seen, plain-heard, inner-plain, part-ended, part-open, part-then}
+use Rattle.session.specs.Scanning.{Scan, ended, endSaid, byteSeen, byteSaid, seen, allSaid}
+use Rattle.session.specs.Contracts.{Kept, LineEnded, PartFed, PieceFed, SessionFits, partOf, viewOf}
+use Rattle.session.proofs.Whole.{scan, seen-then, all-said-then}
+use Rattle.session.proofs.Gathered.{plain-seen, plain-said, inner-plain, part-ended, part-open, part-then}
 
 -- ---- a part of a piece
 abbrev holding : Session → ℕ → Session
@@ -24,7 +24,7 @@ module _ (s : Session) (line counts : List ℕ) where
   abbrev stateOf : State
   stateOf = record { receiver = s .receiver; tally = s .tally; counts = counts }
 
-  as-scan : Sound s line counts → viewOf s line counts ≡ scan (s .left) stateOf (take (s .len) line)
+  as-scan : SessionFits s line counts → viewOf s line counts ≡ scan (s .left) stateOf (take (s .len) line)
   unfolding viewOf
   as-scan h =
       let short : length (take (s .len) line) ≤ 137 = omega (arith, length-take-le (s .len) line (omega (arith, h .long, h .within)), h .within) in
@@ -35,36 +35,36 @@ module _ (s : Session) (line counts : List ℕ) where
     unfolding viewOf
     kept-view = ap (λ (p : List ℕ). record { left = s .left; state = stateOf; part = p }) (k .kept)
 
-    pub kept-sound : Sound s line counts → Sound (holding s len) line′ counts
-    kept-sound h = record { modest = h .modest; long = k .long; within = k .within }
+    pub kept-fits : SessionFits s line counts → SessionFits (holding s len) line′ counts
+    kept-fits h = record { bounds = h .bounds; long = k .long; within = k .within }
 
-module _ {piece : List ℕ} {from end : ℕ} (e : LineEnd piece from end) (s : Session) (line counts : List ℕ) (h : Sound s line counts) {line′ : List ℕ} {len : ℕ}
+module _ {piece : List ℕ} {from end : ℕ} (e : LineEnd piece from end) (s : Session) (line counts : List ℕ) (h : SessionFits s line counts) {line′ : List ℕ} {len : ℕ}
     (k : Kept (take (end - from) (drop from piece)) line (s .len) line′ len) where
   inner-seen : seen (viewOf s line counts) (take (end - from) (drop from piece)) ≡ viewOf (holding s len) line′ counts
   inner-seen =
       ap (λ (c : Scan). seen c (take (end - from) (drop from piece))) (as-scan s line counts h)
       ∙ plain-seen (s .left) (stateOf s line counts) (take (end - from) (drop from piece)) (take (s .len) line) (inner-plain e) ∙ sym (kept-view s line counts k)
 
-  inner-heard : heard (viewOf s line counts) (take (end - from) (drop from piece)) ≡ []
+  inner-heard : allSaid (viewOf s line counts) (take (end - from) (drop from piece)) ≡ []
   inner-heard =
-      ap (λ (c : Scan). heard c (take (end - from) (drop from piece))) (as-scan s line counts h)
-      ∙ plain-heard (s .left) (stateOf s line counts) (take (end - from) (drop from piece)) (take (s .len) line) (inner-plain e)
+      ap (λ (c : Scan). allSaid c (take (end - from) (drop from piece))) (as-scan s line counts h)
+      ∙ plain-said (s .left) (stateOf s line counts) (take (end - from) (drop from piece)) (take (s .len) line) (inner-plain e)
 
   pub part-waits : (out : List ℕ) (at : ℕ) → length piece ≤ end → PartFed s piece from end line line′ counts counts out out at (record { session = holding s len; at = at })
   part-waits out at b =
       record {
         view = sym (ap (seen (viewOf s line counts)) (part-open e b) ∙ inner-seen);
-        text = subst (λ (l : List ℕ). Put out at l out at) (sym (ap (heard (viewOf s line counts)) (part-open e b) ∙ inner-heard)) (put-nothing out at);
+        text = subst (λ (l : List ℕ). Put out at l out at) (sym (ap (allSaid (viewOf s line counts)) (part-open e b) ∙ inner-heard)) (put-nothing out at);
         room = omega arith;
-        sound = kept-sound s line counts k h;
+        fits = kept-fits s line counts k h;
       }
 
   lf-seen : (c : Scan) → seen c (10 ∷ []) ≡ ended c
   unfolding seen byteSeen
   lf-seen c = refl
 
-  lf-heard : (c : Scan) → heard c (10 ∷ []) ≡ endSaid c
-  unfolding heard byteSaid
+  lf-heard : (c : Scan) → allSaid c (10 ∷ []) ≡ endSaid c
+  unfolding allSaid byteSaid
   lf-heard c = append-nil (endSaid c)
 
   pub part-ends : {counts′ out out′ : List ℕ} {at : ℕ} (r : Fed) → end < length piece → LineEnded (holding s len) line′ counts counts′ out out′ at r
@@ -78,12 +78,12 @@ module _ {piece : List ℕ} {from end : ℕ} (e : LineEnd piece from end) (s : S
             ∙ ap (λ (c : Scan). seen c (10 ∷ [])) inner-seen ∙ lf-seen (viewOf (holding s len) line′ counts));
         text =
             subst (λ (l : List ℕ). Put out at l out′ (r .at))
-            (sym (ap (heard (viewOf s line counts)) (part-ended e b) ∙ heard-then inner (10 ∷ []) (viewOf s line counts)
-            ∙ ap (λ (l : List ℕ). l ++ heard (seen (viewOf s line counts) inner) (10 ∷ [])) inner-heard
-            ∙ ap (λ (c : Scan). heard c (10 ∷ [])) inner-seen ∙ lf-heard (viewOf (holding s len) line′ counts)))
+            (sym (ap (allSaid (viewOf s line counts)) (part-ended e b) ∙ all-said-then inner (10 ∷ []) (viewOf s line counts)
+            ∙ ap (λ (l : List ℕ). l ++ allSaid (seen (viewOf s line counts) inner) (10 ∷ [])) inner-heard
+            ∙ ap (λ (c : Scan). allSaid c (10 ∷ [])) inner-seen ∙ lf-heard (viewOf (holding s len) line′ counts)))
             (p .text);
         room = p .room;
-        sound = p .sound;
+        fits = p .fits;
       }
 
 -- ---- the loop of `feed`: the first i bytes of the piece are fed
@@ -91,9 +91,9 @@ pub record Feeding (s : Session) (piece line counts out : List ℕ) (i : ℕ) (l
   pub fed : PieceFed s (take i piece) line line′ counts counts′ out out′ r
 
 module _ {s : Session} {piece line counts out : List ℕ} where
-  pub feeding-none : Sound s line counts → Feeding s piece line counts out 0 line counts out (record { session = s; at = 0 })
-  unfolding seen heard
-  feeding-none h = record { fed = record { view = refl; text = put-nothing out 0; room = omega arith; sound = h } }
+  pub feeding-none : SessionFits s line counts → Feeding s piece line counts out 0 line counts out (record { session = s; at = 0 })
+  unfolding seen allSaid
+  feeding-none h = record { fed = record { view = refl; text = put-nothing out 0; room = omega arith; fits = h } }
 
   module _ {i : ℕ} {line′ counts′ out′ : List ℕ} {r : Fed} (f : Feeding s piece line counts out i line′ counts′ out′ r) where
     pub feeding-more : {end : ℕ} {line″ counts″ out″ : List ℕ} {q : Fed} → i < length piece → LineEnd piece i end
@@ -108,10 +108,10 @@ module _ {s : Session} {piece line counts out : List ℕ} where
                 view = p .view ∙ ap (λ (x : Scan). seen x part) v ∙ sym (ap (seen c) (part-then e) ∙ seen-then (take i piece) part c);
                 text =
                     subst (λ (l : List ℕ). Put out 0 l out″ (q .at))
-                    (ap (λ (x : Scan). heard c (take i piece) ++ heard x part) v ∙ sym (ap (heard c) (part-then e) ∙ heard-then (take i piece) part c))
+                    (ap (λ (x : Scan). allSaid c (take i piece) ++ allSaid x part) v ∙ sym (ap (allSaid c) (part-then e) ∙ all-said-then (take i piece) part c))
                     (put-then (f .fed .text) (p .text));
                 room = omega (arith, f .fed .room, p .room, length-take i piece, length-take (end + 1) piece, e .low);
-                sound = p .sound;
+                fits = p .fits;
               };
         }
 

@@ -9,7 +9,7 @@ use Rattle.session.specs.declared.Session.{Session}
 use Rattle.session.specs.Totals.{closing}
 use Rattle.session.specs.declared.totals.Tally.{Tally}
 use Rattle.session.specs.Output.{fresh}
-use Rattle.session.specs.Scanning.{Scan, ended, endSaid, seen, heard, closed, closeSaid}
+use Rattle.session.specs.Scanning.{Scan, ended, endSaid, seen, allSaid, closed, closeSaid}
 
 -- ---- a session as a scan: `line` holds the line so far, `counts` the words of each code
 unfoldable pub viewOf : Session → List ℕ → List ℕ → Scan
@@ -24,15 +24,15 @@ unfoldable pub atStart : Scan
 atStart = record { left = 1000000; state = fresh; part = [] }
 
 -- ---- totals that fit their numbers: no more words than lines read
-pub record Modest (t : Tally) (left : ℕ) (counts : List ℕ) : Type 0 where
+pub record WithinBounds (t : Tally) (left : ℕ) (counts : List ℕ) : Type 0 where
   pub words : t .words + left ≤ 1000000
   pub corrected : t .corrected ≤ 65535 * t .words
   pub coded : t .coded ≤ 260 * t .words
   pub codes : length counts ≡ 256
   pub each : (d : ℕ) → getD counts d 0 ≤ t .words
 
-pub record Sound (s : Session) (line counts : List ℕ) : Type 0 where
-  pub modest : Modest (s .tally) (s .left) counts
+pub record SessionFits (s : Session) (line counts : List ℕ) : Type 0 where
+  pub bounds : WithinBounds (s .tally) (s .left) counts
   pub long : length line ≡ 137
   pub within : s .len ≤ 137
 
@@ -48,7 +48,7 @@ pub record LineEnded (s : Session) (line counts counts′ out out′ : List ℕ)
   pub view : viewOf (r .session) line counts′ ≡ ended (viewOf s line counts)
   pub text : Put out at (endSaid (viewOf s line counts)) out′ (r .at)
   pub room : r .at ≤ at + 25
-  pub sound : Sound (r .session) line counts′
+  pub fits : SessionFits (r .session) line counts′
 
 -- the bytes from `from` up to `end`, and the LF there
 abbrev pub partOf : List ℕ → ℕ → ℕ → List ℕ
@@ -56,23 +56,23 @@ partOf piece from end = take (end + 1 - from) (drop from piece)
 
 pub record PartFed (s : Session) (piece : List ℕ) (from end : ℕ) (line line′ counts counts′ out out′ : List ℕ) (at : ℕ) (r : Fed) : Type 0 where
   pub view : viewOf (r .session) line′ counts′ ≡ seen (viewOf s line counts) (partOf piece from end)
-  pub text : Put out at (heard (viewOf s line counts) (partOf piece from end)) out′ (r .at)
+  pub text : Put out at (allSaid (viewOf s line counts) (partOf piece from end)) out′ (r .at)
   pub room : r .at ≤ at + 25
-  pub sound : Sound (r .session) line′ counts′
+  pub fits : SessionFits (r .session) line′ counts′
 
 -- a piece of the input
 pub record PieceFed (s : Session) (piece line line′ counts counts′ out out′ : List ℕ) (r : Fed) : Type 0 where
   pub view : viewOf (r .session) line′ counts′ ≡ seen (viewOf s line counts) piece
-  pub text : Put out 0 (heard (viewOf s line counts) piece) out′ (r .at)
+  pub text : Put out 0 (allSaid (viewOf s line counts) piece) out′ (r .at)
   pub room : r .at ≤ 25 * length piece
-  pub sound : Sound (r .session) line′ counts′
+  pub fits : SessionFits (r .session) line′ counts′
 
 -- the end of the input
 pub record Closed (s : Session) (line counts counts′ out out′ : List ℕ) (r : Fed) : Type 0 where
   pub state : record { receiver = r .session .receiver; tally = r .session .tally; counts = counts′ } ≡ closed (viewOf s line counts)
   pub text : Put out 0 (closeSaid (viewOf s line counts)) out′ (r .at)
   pub room : r .at ≤ 25
-  pub modest : Modest (r .session .tally) (r .session .left) counts′
+  pub bounds : WithinBounds (r .session .tally) (r .session .left) counts′
 
 unfoldable pub endText : Scan → List ℕ
 endText c = closeSaid c ++ closing (closed c .tally) (closed c .counts)

@@ -10,7 +10,7 @@ use Rattle.sacch_receiver.specs.Receiver.{freshReceiver}
 use Rattle.sacch_receiver.specs.declared.SacchReceiver.{SacchReceiver}
 use Rattle.session.specs.declared.totals.Tally.{Tally}
 use Rattle.session.specs.Replies.{replyTo}
-use Rattle.session.specs.Totals.{addedBy, closing, counted, noWord, summed}
+use Rattle.session.specs.Totals.{addedBy, closing, counted, nothingAdded, summed}
 
 -- ---- the lines of an input
 -- each ends at LF (10), `part` being the start of the first; a last line without LF counts if it is not empty
@@ -29,7 +29,7 @@ pub record State : Type 0 where
   pub counts : List ℕ
 
 unfoldable pub fresh : State
-fresh = record { receiver = freshReceiver; tally = noWord; counts = replicate 256 0 }
+fresh = record { receiver = freshReceiver; tally = nothingAdded; counts = replicate 256 0 }
 
 unfoldable pub next : State → List ℕ → State
 next s l =

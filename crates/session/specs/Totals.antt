@@ -10,19 +10,19 @@ use Rattle.lines.specs.declared.reply.Reply.{Reply}
 use Rattle.lines.specs.declared.reply.Reply.the-variants as reply
 use Rattle.session.specs.declared.totals.Tally.{Tally}
 
-unfoldable pub noWord : Tally
-noWord = record { words = 0; corrected = 0; coded = 0 }
+unfoldable pub nothingAdded : Tally
+nothingAdded = record { words = 0; corrected = 0; coded = 0 }
 
 unfoldable pub oneWord : ℕ → ℕ → Tally
 oneWord corrected coded = record { words = 1; corrected = corrected; coded = coded }
 
 -- what an answer adds: a word, its corrected bits, and its coded bits, 132 for a `W` and 260 for a `G`
 unfoldable pub addedBy : Reply → Tally
-addedBy reply.Nothing = noWord
-addedBy reply.Pending = noWord
-addedBy (reply.Refused why) = noWord
+addedBy reply.Nothing = nothingAdded
+addedBy reply.Pending = nothingAdded
+addedBy (reply.Refused why) = nothingAdded
 addedBy (reply.SacchWord continuation message corrected ending) = oneWord corrected 132
-addedBy reply.Discontinuous = noWord
+addedBy reply.Discontinuous = nothingAdded
 addedBy (reply.FacchWord continuation message corrected observed) = oneWord corrected 260
 
 unfoldable pub summed : Tally → Tally → Tally
@@ -33,7 +33,7 @@ unfoldable pub counted : List ℕ → ℕ → ℕ → List ℕ
 counted counts dvcc words = set counts dvcc (getD counts dvcc 0 + words)
 
 -- what one answer adds
-pub record Light (t : Tally) : Type 0 where
+pub record OneAnswer (t : Tally) : Type 0 where
   pub one : t .words ≤ 1
   pub corrected : t .corrected ≤ 65535 * t .words
   pub coded : t .coded ≤ 260 * t .words

@@ -16,7 +16,7 @@ ghost use mathlib.Core.Path.{_≡_};
 ghost use Prim.Native.Nat.{_+_, _≤_};
 ghost use lib.ListN.{length};
 ghost use Rattle.text.specs.Writing.{Put};
-ghost use Rattle.session.specs.Contracts.{Closed, LineEnded, Sound, begun, endText, viewOf};
+ghost use Rattle.session.specs.Contracts.{Closed, LineEnded, SessionFits, begun, endText, viewOf};
 
 // All that goes from one piece of the input to the next, but for two lent buffers: the line so far, and how many words each colour code has.
 pub struct Session {
@@ -36,7 +36,7 @@ pub struct Fed {
 
 // The line so far is at its end: it is answered and counted, unless a million lines were read.
 pub fn end_line(session: Session, line: &[u8], counts: &mut [u32], out: &mut [u8], at: usize) -> Fed
-    requires { ⌜ Sound session (now line) (now counts) × (at + 25 ≤ length (now out)) ⌝ }
+    requires { ⌜ SessionFits session (now line) (now counts) × (at + 25 ≤ length (now out)) ⌝ }
     ensures { λ r. ⌜ LineEnded session (now (line .entry)) (now (counts .entry)) (now (counts .exit)) (now (out .entry)) (now (out .exit)) at r ⌝ }
 {
     let left = session.left;
@@ -56,7 +56,7 @@ pub fn end_line(session: Session, line: &[u8], counts: &mut [u32], out: &mut [u8
     }
     let replied = reply_to(receiver, &line[..len]);
     let reply = replied.reply;
-    let heard = replied.receiver;
+    let allSaid = replied.receiver;
     let more = added(reply);
     count(counts, replied.dvcc, more.words);
     let next = put_reply(out, at, reply);
@@ -65,14 +65,14 @@ pub fn end_line(session: Session, line: &[u8], counts: &mut [u32], out: &mut [u8
         session: Session {
             left: left - 1,
             len: 0,
-            receiver: heard,
+            receiver: allSaid,
             tally: total,
         },
         at: next,
     }
 }
 
-// Before the input: nothing heard, nothing counted, a million lines to read.
+// Before the input: nothing allSaid, nothing counted, a million lines to read.
 pub fn start() -> Session
     ensures { λ r. ⌜ r ≡ begun ⌝ }
 {
@@ -90,7 +90,7 @@ pub fn start() -> Session
 
 // A last line without LF counts if it is not empty.
 fn last_line(session: Session, line: &[u8], counts: &mut [u32], out: &mut [u8]) -> Fed
-    requires { ⌜ Sound session (now line) (now counts) × (25 ≤ length (now out)) ⌝ }
+    requires { ⌜ SessionFits session (now line) (now counts) × (25 ≤ length (now out)) ⌝ }
     ensures { λ r. ⌜ Closed session (now (line .entry)) (now (counts .entry)) (now (counts .exit)) (now (out .entry)) (now (out .exit)) r ⌝ }
 {
     let len = session.len;
@@ -102,7 +102,7 @@ fn last_line(session: Session, line: &[u8], counts: &mut [u32], out: &mut [u8]) 
 
 // What follows the input: a last line without LF, and the closing lines.
 pub fn finish(session: Session, line: &[u8], counts: &mut [u32], out: &mut [u8]) -> usize
-    requires { ⌜ Sound session (now line) (now counts) × (8192 ≤ length (now out)) ⌝ }
+    requires { ⌜ SessionFits session (now line) (now counts) × (8192 ≤ length (now out)) ⌝ }
     ensures { λ r. ⌜ Put (now (out .entry)) 0 (endText (viewOf session (now (line .entry)) (now (counts .entry)))) (now (out .exit)) r ⌝ }
     ensures { λ r. ⌜ r ≤ length (now (out .exit)) ⌝ }
 {

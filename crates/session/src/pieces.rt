@@ -7,7 +7,7 @@ ghost use mathlib.Core.Path.{_≡_};
 ghost use Prim.Native.Nat.{_+_, _*_, _≤_, min};
 ghost use lib.ListN.{length};
 ghost use Rattle.text.specs.Lines.{LineEnd};
-ghost use Rattle.session.specs.Contracts.{Kept, PartFed, PieceFed, Sound};
+ghost use Rattle.session.specs.Contracts.{Kept, PartFed, PieceFed, SessionFits};
 
 fn least(a: usize, b: usize) -> usize
     ensures { λ r. ⌜ r ≡ min a b ⌝ }
@@ -40,7 +40,7 @@ fn feed_part(
     out: &mut [u8],
     at: usize,
 ) -> Fed
-    requires { ⌜ Sound session (now line) (now counts) × (at + 25 ≤ length (now out)) × LineEnd (now piece) from end ⌝ }
+    requires { ⌜ SessionFits session (now line) (now counts) × (at + 25 ≤ length (now out)) × LineEnd (now piece) from end ⌝ }
     ensures { λ r. ⌜ PartFed session (now (piece .entry)) from end (now (line .entry)) (now (line .exit)) (now (counts .entry)) (now (counts .exit)) (now (out .entry)) (now (out .exit)) at r ⌝ }
 {
     let len = keep(&piece[from..end], line, session.len);
@@ -60,7 +60,7 @@ pub fn feed(
     counts: &mut [u32],
     out: &mut [u8],
 ) -> Fed
-    requires { ⌜ Sound session (now line) (now counts) × (25 * length (now piece) ≤ length (now out)) ⌝ }
+    requires { ⌜ SessionFits session (now line) (now counts) × (25 * length (now piece) ≤ length (now out)) ⌝ }
     ensures { λ r. ⌜ PieceFed session (now (piece .entry)) (now (line .entry)) (now (line .exit)) (now (counts .entry)) (now (counts .exit)) (now (out .entry)) (now (out .exit)) r ⌝ }
     ensures { λ r. ⌜ r .at ≤ length (now (out .exit)) ⌝ }
 {

@@ -6,7 +6,7 @@ ghost use mathlib.Core.Path.{_≡_};
 ghost use Prim.Native.Nat.{_+_, _*_, _≤_, _<_};
 ghost use lib.ListN.{getD, length};
 ghost use Rattle.text.specs.Writing.{Put};
-ghost use Rattle.session.specs.Totals.{Light, addedBy, closing, codeLine, codeLines, counted, lowestFirst, noWord, oneWord, rateOf, summed};
+ghost use Rattle.session.specs.Totals.{OneAnswer, addedBy, closing, codeLine, codeLines, counted, lowestFirst, nothingAdded, oneWord, rateOf, summed};
 
 // Accepted words, their corrected bits and their coded bits.
 pub struct Tally {
@@ -15,8 +15,8 @@ pub struct Tally {
     pub coded: u64,
 }
 
-fn no_word() -> Tally
-    ensures { λ r. ⌜ (r ≡ noWord) × Light r ⌝ }
+fn nothing_added() -> Tally
+    ensures { λ r. ⌜ (r ≡ nothingAdded) × OneAnswer r ⌝ }
 {
     Tally {
         words: 0,
@@ -27,7 +27,7 @@ fn no_word() -> Tally
 
 fn one_word(corrected: u16, coded: u64) -> Tally
     requires { ⌜ coded ≤ 260 ⌝ }
-    ensures { λ r. ⌜ (r ≡ oneWord corrected coded) × Light r ⌝ }
+    ensures { λ r. ⌜ (r ≡ oneWord corrected coded) × OneAnswer r ⌝ }
 {
     Tally {
         words: 1,
@@ -38,19 +38,19 @@ fn one_word(corrected: u16, coded: u64) -> Tally
 
 // What an answer adds to the totals.
 pub fn added(reply: Reply) -> Tally
-    ensures { λ r. ⌜ (r ≡ addedBy reply) × Light r ⌝ }
+    ensures { λ r. ⌜ (r ≡ addedBy reply) × OneAnswer r ⌝ }
 {
     match reply {
-        Reply::Nothing => no_word(),
-        Reply::Pending => no_word(),
-        Reply::Refused(_) => no_word(),
+        Reply::Nothing => nothing_added(),
+        Reply::Pending => nothing_added(),
+        Reply::Refused(_) => nothing_added(),
         Reply::SacchWord {
             continuation: _,
             message: _,
             corrected,
             ending: _,
         } => one_word(corrected, 132),
-        Reply::Discontinuous => no_word(),
+        Reply::Discontinuous => nothing_added(),
         Reply::FacchWord {
             continuation: _,
             message: _,
@@ -61,7 +61,7 @@ pub fn added(reply: Reply) -> Tally
 }
 
 pub fn sum(a: Tally, b: Tally) -> Tally
-    requires { ⌜ (a .words < 1000000) × (a .corrected ≤ 65535 * a .words) × (a .coded ≤ 260 * a .words) × Light b ⌝ }
+    requires { ⌜ (a .words < 1000000) × (a .corrected ≤ 65535 * a .words) × (a .coded ≤ 260 * a .words) × OneAnswer b ⌝ }
     ensures { λ r. ⌜ r ≡ summed a b ⌝ }
 {
     Tally {

@@ -5,6 +5,6 @@
 pub mod Statuses
 pub mod Answering
 pub mod Settling
-pub mod Running
+pub mod Copying
 pub mod InputBits
-pub mod Turning
+pub mod ClassPlaces

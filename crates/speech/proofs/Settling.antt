@@ -16,7 +16,7 @@ use Rattle.trellis.specs.Search.{Found, FoundFirst}
 use Rattle.trellis.specs.Words.{Terminated}
 use Rattle.trellis.specs.declared.Outcome.{Outcome}
 use Rattle.viterbi.specs.Hard.{weight}
-use Rattle.speech.specs.Turns.{isClassTwo, takenFrom, classTwoOf, protectedOf}
+use Rattle.speech.specs.Classes.{isClassTwo, takenFrom, classTwoOf, protectedOf}
 use Rattle.speech.specs.Calls.{Told, Decoding, decodeArguments, frameWeight, statusOf}
 
 -- ---- taking commutes with a function of the elements, so bits stay bits

@@ -9,7 +9,7 @@ use Rattle.bits.specs.Bits.{bits, bytes}
 use Rattle.bits.specs.Numbers.{packed}
 use Rattle.bits.specs.Refusals.{Answer, accepted, refused}
 use Rattle.bits.specs.Arguments.{firstRefusal, exactOf, binaryOf, twoAndRoom}
-use Rattle.bits.specs.Calls.{Written}
+use Rattle.bits.specs.Calls.{WriteCall}
 use Rattle.bits.specs.declared.arguments.Arguments.{Arguments}
 use Rattle.bits.specs.declared.arguments.Arguments.the-variants.{Passed, Refused}
 use Rattle.bits.specs.declared.Refusal.{Refusal}
@@ -19,7 +19,7 @@ use Rattle.trellis.specs.Search.{Nearest, Ambiguous}
 use Rattle.trellis.specs.Words.{Terminated}
 use Rattle.viterbi.specs.Hard.{weight}
 use Rattle.speech.specs.Inputs.{bitsAt, parityPlaces, parityOf, classOneOf}
-use Rattle.speech.specs.Turns.{classTwoOf, protectedOf}
+use Rattle.speech.specs.Classes.{classTwoOf, protectedOf}
 use Rattle.speech.specs.Frames.{frameOf}
 use Rattle.speech.specs.declared.CrcStatus.{CrcStatus}
 use Rattle.speech.specs.declared.CrcStatus.the-variants.{Valid, Failed}
@@ -33,7 +33,7 @@ encodeArguments classOne classTwo room =
 
 abbrev pub Encoding : List ℕ → List ℕ → List ℕ → List ℕ → Wrote → Type 0
 Encoding classOne classTwo frame₀ frame r =
-    Written (encodeArguments classOne classTwo (length frame₀)) (bytes (frameOf (bits classOne) (bits classTwo))) frame₀ frame r
+    WriteCall (encodeArguments classOne classTwo (length frame₀)) (bytes (frameOf (bits classOne) (bits classTwo))) frame₀ frame r
 
 -- ---- decode_candidate
 abbrev pub decodeArguments : List ℕ → ℕ → ℕ → Arguments

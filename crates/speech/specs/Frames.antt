@@ -4,7 +4,7 @@ use mathlib.Core.List.{List}
 use Rattle.coding.specs.Codes.{coded, dcch}
 use Rattle.coding.specs.Registers.{memoryHigh}
 use Rattle.speech.specs.Inputs.{inputsOf}
-use Rattle.speech.specs.Turns.{placed}
+use Rattle.speech.specs.Classes.{placed}
 
 -- the inputs coded from state 0
 unfoldable pub frameOf : List Bool → List Bool → List Bool

@@ -4,6 +4,6 @@
 -- The places of a frame.
 pub mod Frames
 pub mod Calls
-pub mod Runs
+pub mod Ranges
 pub mod Inputs
-pub mod Turns
+pub mod Classes

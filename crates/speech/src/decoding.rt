@@ -2,11 +2,11 @@
 // Ported from 136-bts, speech.rs, and changed (see NOTICE).
 use crate::CrcStatus;
 use crate::Decoded;
+use crate::classes::take_class_two;
+use crate::classes::take_protected;
 use crate::inputs::checksum;
 use crate::inputs::take_parity;
-use crate::runs::copy_run;
-use crate::turns::take_class_two;
-use crate::turns::take_protected;
+use crate::ranges::copy_range;
 use bits::Refusal;
 use bits::arguments::Arguments;
 use bits::arguments::exact;
@@ -75,7 +75,7 @@ fn settle(frame: &[u8], class_one: &mut [u8], class_two: &mut [u8]) -> Decoded
     if found.tie {
         return Decoded::Refused(Refusal::Ambiguous);
     }
-    copy_run(&inputs, 4, class_one, 0, 77);
+    copy_range(&inputs, 4, class_one, 0, 77);
     take_class_two(frame, class_two);
     accept(&inputs, found.metric)
 }

@@ -1,7 +1,7 @@
 // Encoding of a frame.
 // Ported from 136-bts, speech.rs, and changed (see NOTICE).
+use crate::classes::merge;
 use crate::inputs::fill_inputs;
-use crate::turns::merge;
 use bits::Wrote;
 use bits::arguments::Arguments;
 use bits::arguments::two_and_room;

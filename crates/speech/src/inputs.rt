@@ -1,6 +1,6 @@
 // The 89 inputs of a frame (IS-54-B 2.1.3.3.3): the class-one bits, their checksum, and five zeros.
 // Ported from 136-bts, speech.rs, and changed (see NOTICE).
-use crate::runs::copy_run;
+use crate::ranges::copy_range;
 use bits::unpack;
 use checksums::checksum7_of_bits;
 ghost use mathlib.Core.Bool.{Bool, true};
@@ -62,7 +62,7 @@ pub fn fill_inputs(class_one: &[u8], inputs: &mut [u8])
     requires { ⌜ (length (now «class_one») ≡ 77) × (allBinary (now «class_one») ≡ true) × (now inputs ≡ replicate 89 0) ⌝ }
     ensures { λ _. ⌜ now (inputs .exit) ≡ bytes (inputsOf (bits (now («class_one» .entry)))) ⌝ }
 {
-    copy_run(class_one, 0, inputs, 4, 77);
+    copy_range(class_one, 0, inputs, 4, 77);
     let remainder = checksum(inputs);
     let mut parity = [0u8; 7];
     unpack(remainder as u64, &mut parity);

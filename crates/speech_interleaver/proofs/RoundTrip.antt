@@ -6,7 +6,7 @@ use Rattle.interleaving.proofs.RoundTrip.{between-two}
 use Rattle.speech_interleaver.specs.Wire.{placeAt, wireOf, interleaved, deinterleaved}
 use Rattle.speech_interleaver.proofs.Order.{wire-below, place-of-wire}
 
-pub round-trip : {A : Type 0} (d : A) (before frame after : List A) → length frame ≡ 260
+pub vselp-slots-round-trip : {A : Type 0} (d : A) (before frame after : List A) → length frame ≡ 260
     → deinterleaved d (interleaved d before frame) (interleaved d frame after) ≡ frame
 unfolding interleaved deinterleaved
-round-trip d before frame after size = between-two d placeAt wireOf wire-below place-of-wire before frame after size
+vselp-slots-round-trip d before frame after size = between-two d placeAt wireOf wire-below place-of-wire before frame after size

@@ -2,7 +2,7 @@
 use mathlib.Core.List.{List}
 use Prim.Native.Nat.{ℕ, _+_, _*_, _/_, _%_}
 use lib.ListN.{length}
-use Rattle.bits.specs.Calls.{Written}
+use Rattle.bits.specs.Calls.{WriteCall}
 use Rattle.bits.specs.declared.Wrote.{Wrote}
 use Rattle.interleaving.specs.Slots.{carried, collected, byRow}
 use Rattle.interleaving.specs.Calls.{twoArguments}
@@ -24,7 +24,7 @@ deinterleaved d first second = collected d wireOf (byRow second first)
 
 -- ---- the calls
 abbrev pub Interleaving : List ℕ → List ℕ → List ℕ → List ℕ → Wrote → Type 0
-Interleaving previous current slot₀ slot r = Written (twoArguments previous current (length slot₀)) (interleaved 0 previous current) slot₀ slot r
+Interleaving previous current slot₀ slot r = WriteCall (twoArguments previous current (length slot₀)) (interleaved 0 previous current) slot₀ slot r
 
 abbrev pub Deinterleaving : List ℕ → List ℕ → List ℕ → List ℕ → Wrote → Type 0
-Deinterleaving first second frame₀ frame r = Written (twoArguments first second (length frame₀)) (deinterleaved 0 first second) frame₀ frame r
+Deinterleaving first second frame₀ frame r = WriteCall (twoArguments first second (length frame₀)) (deinterleaved 0 first second) frame₀ frame r

@@ -50,8 +50,8 @@ module _ {frame speech₀ speech speech′ : List ℕ} {a b : Answer Told} (p : 
       left : {speech : List ℕ} {a : Answer Told} → (a ≡ refused refusal.Ambiguous) × (speech ≡ speech₀) → _≡_ {A = Outcome} (a, speech) (refused refusal.Ambiguous, speech₀)
       left (e, f) = cc
 
-  pub one-answer : (a ≡ b) × (speech ≡ speech′)
-  one-answer = go (decodeArguments frame (length speech₀)) refl
+  pub acelp-one-answer : (a ≡ b) × (speech ≡ speech′)
+  acelp-one-answer = go (decodeArguments frame (length speech₀)) refl
     where
       go : (l : Arguments) → decodeArguments frame (length speech₀) ≡ l → (a ≡ b) × (speech ≡ speech′)
       go Passed e = (ap (λ (x : Outcome). x .0) (one-passed e), ap (λ (x : Outcome). x .1) (one-passed e))

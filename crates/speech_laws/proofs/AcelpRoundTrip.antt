@@ -104,11 +104,11 @@ own-bits speech speech₀ speech′ answer size room d =
           ∙ ap (λ (o : List Bool). bytes (unordered false o)) (again order many) ∙ ap bytes (unordered-ordered speech size),
     )
 
-pub round-trip : (speech frame₀ frame speech₀ speech′ : List ℕ) (r : Wrote) (answer : Answer Told)
+pub acelp-round-trip : (speech frame₀ frame speech₀ speech′ : List ℕ) (r : Wrote) (answer : Answer Told)
     → length speech ≡ 148 → allBinary speech ≡ true → length frame₀ ≡ 260 → length speech₀ ≡ 148
     → Encoding speech frame₀ frame r → Decoding frame speech₀ speech′ answer
     → (answer ≡ accepted (record { valid = true; corrected = 0 })) × (speech′ ≡ speech)
-round-trip speech frame₀ frame speech₀ speech′ r answer size b room room′ e d =
+acelp-round-trip speech frame₀ frame speech₀ speech′ r answer size b room room′ e d =
     let written : frame ≡ bytes (frameOf (bits speech)) = e .done (room-passed 148 speech 260 (length frame₀) size room b) .1 in
     let back = own-bits (bits speech) speech₀ speech′ answer (length-map speech bit ∙ size) room′ (subst (λ (l : List ℕ). Decoding l speech₀ speech′ answer) written d) in
     (back .0, back .1 ∙ bytes-bits speech b)

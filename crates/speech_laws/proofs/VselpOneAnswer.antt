@@ -52,8 +52,8 @@ module _ {frame one₀ two₀ one two one′ two′ : List ℕ} {a b : Answer To
           → _≡_ {A = Outcome} (a, one, two) (refused refusal.Ambiguous, one₀, two₀)
       left (e, f, g) = cc
 
-  pub one-answer : (a ≡ b) × (one ≡ one′) × (two ≡ two′)
-  one-answer = go (decodeArguments frame (length one₀) (length two₀)) refl
+  pub vselp-one-answer : (a ≡ b) × (one ≡ one′) × (two ≡ two′)
+  vselp-one-answer = go (decodeArguments frame (length one₀) (length two₀)) refl
     where
       go : (l : Arguments) → decodeArguments frame (length one₀) (length two₀) ≡ l → (a ≡ b) × (one ≡ one′) × (two ≡ two′)
       go Passed e = (ap (λ (x : Outcome). x .0) (one-passed e), ap (λ (x : Outcome). x .1) (one-passed e), ap (λ (x : Outcome). x .2) (one-passed e))

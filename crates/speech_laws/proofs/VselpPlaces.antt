@@ -5,7 +5,7 @@ use mathlib.Core.List.{List, [], reverse}
 use lib.ListN.{length, take, replicate}
 use Rattle.bits.specs.Places.{listed, placeIn}
 use Rattle.speech.specs.Inputs.{bitsAt, parityPlaces, significantPlaces, inputsWith, classOneOf}
-use Rattle.speech.specs.Turns.{isClassTwo, passing, placed, takenFrom, classTwoOf, protectedOf}
+use Rattle.speech.specs.Classes.{isClassTwo, passing, placed, takenFrom, classTwoOf, protectedOf}
 use Rattle.speech.proofs.InputBits.{by-places}
 
 -- ---- the inputs, whatever the checksum bits are

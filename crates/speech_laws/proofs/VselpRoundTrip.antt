@@ -27,7 +27,7 @@ use Rattle.trellis.specs.Search.{Nearest, Ambiguous}
 use Rattle.trellis.specs.Words.{Terminated}
 use Rattle.viterbi.specs.Hard.{weight, weightFrom}
 use Rattle.speech.specs.Inputs.{bitsAt, parityPlaces, parityOf, inputsWith, inputsOf, classOneOf}
-use Rattle.speech.specs.Turns.{placed, protectedOf, isClassTwo}
+use Rattle.speech.specs.Classes.{placed, protectedOf, isClassTwo}
 use Rattle.speech.specs.Frames.{frameOf}
 use Rattle.speech.specs.Calls.{Told, Settled, Decoding, Encoding, encodeArguments, decodeArguments, frameWeight, statusOf}
 use Rattle.speech.specs.declared.CrcStatus.{CrcStatus}
@@ -108,11 +108,11 @@ module _ (one two : List Bool) (size : length one ≡ 77) where
       (ap₂ firstRefusal (exact-passed 77 n en) (ap₂ firstRefusal (exact-passed 82 m em) (binary-passed frame (binary-bytes (frameOf one two)))))
 
   -- of the frame of speech bits
-  pub round-trip : length two ≡ 82 → {one₀ two₀ one′ two′ : List ℕ} {answer : Answer Told} → length one₀ ≡ 77 → length two₀ ≡ 82
+  pub vselp-round-trip : length two ≡ 82 → {one₀ two₀ one′ two′ : List ℕ} {answer : Answer Told} → length one₀ ≡ 77 → length two₀ ≡ 82
       → Decoding (bytes (frameOf one two)) one₀ two₀ one′ two′ answer
       → (answer ≡ accepted (record { crc = Valid; corrected = 0 })) × (one′ ≡ bytes one) × (two′ ≡ bytes two)
   unfolding frameOf sent
-  round-trip twos {one₀} {two₀} {one′} {two′} {answer} room-one room-two d =
+  vselp-round-trip twos {one₀} {two₀} {one′} {two′} {answer} room-one room-two d =
       let s : Settled (bytes (frameOf one two)) one′ two′ answer = d .settled (passed (length one₀) (length two₀) room-one room-two) alone in
       let w = only-own (s .word) (s .nearest) in (
         s .told ∙ ap accepted (ap₂ (λ (c : CrcStatus) (n : ℕ). record { crc = c; corrected = n }) (ap statusOf (w .1) ∙ valid-own) (w .0)),
@@ -126,6 +126,6 @@ pub encoded-back : (one two : List ℕ) {frame₀ frame one₀ two₀ one′ two
     → (answer ≡ accepted (record { crc = Valid; corrected = 0 })) × (one′ ≡ one) × (two′ ≡ two)
 encoded-back one two {frame₀} {frame} {one₀} {two₀} {one′} {two′} r {answer} fits room-one room-two e d =
     let t = passed-two 77 one 82 two 260 (length frame₀) refl fits in
-    let b = round-trip (bits one) (bits two) (length-map one bit ∙ t .0 .0) (length-map two bit ∙ t .0 .1) room-one room-two
+    let b = vselp-round-trip (bits one) (bits two) (length-map one bit ∙ t .0 .0) (length-map two bit ∙ t .0 .1) room-one room-two
     (subst (λ (l : List ℕ). Decoding l one₀ two₀ one′ two′ answer) (e .done fits .1) d) in
     (b .0, b .1 ∙ bytes-bits one (t .1 .0), b .2 ∙ bytes-bits two (t .1 .1))

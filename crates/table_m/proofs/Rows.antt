@@ -7,7 +7,7 @@ use Rattle.checksums.specs.Checksums.{added, divided, checksumOf}
 use Rattle.acelp_cc1.specs.Frames.{informationPlace}
 use Rattle.dcch_interleaver.specs.Wire.{across, everySecond, wireOrder, cellAt}
 use Rattle.facch_interleaver.specs.Wire.{table, placeOf}
-use Rattle.speech.specs.Turns.{isClassTwo}
+use Rattle.speech.specs.Classes.{isClassTwo}
 use Rattle.table_m.specs.TableM.{TableM}
 
 pub table-m : TableM

@@ -10,7 +10,7 @@ use Rattle.acelp_cc1.specs.Frames.{informationPlace}
 use Rattle.dcch_interleaver.specs.declared.BlockFormat.the-variants.{Forward}
 use Rattle.dcch_interleaver.specs.Wire.{cellAt}
 use Rattle.facch_interleaver.specs.Wire.{placeOf}
-use Rattle.speech.specs.Turns.{isClassTwo}
+use Rattle.speech.specs.Classes.{isClassTwo}
 
 pub record TableM : Type 0 where
   -- a step: state, input, next state, outputs

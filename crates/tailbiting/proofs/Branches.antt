@@ -10,7 +10,7 @@ use Rattle.bits.proofs.Tally.{drop-two}
 use Rattle.coding.specs.Codes.{coded, facch}
 use Rattle.search.specs.Forward.{branchBy, Rows}
 use Rattle.trellis.specs.Numbering.{newestLow}
-use Rattle.search.specs.Row.{outputAt}
+use Rattle.search.specs.Row.{outputAt, taps}
 use Rattle.trellis.specs.Search.{Found}
 use Rattle.trellis.specs.Words.{OfLength}
 use Rattle.trellis.specs.declared.Outcome.{Outcome}
@@ -23,12 +23,12 @@ use Rattle.tailbiting.specs.Starts.{endOf, tailMetric}
 use Rattle.tailbiting.specs.TailBiting.{tailWeight}
 use Rattle.bits.specs.Observed.{erasedDiffer}
 use Rattle.bits.proofs.Erased.{erased-le}
-use Rattle.tailbiting.proofs.Turns.{end-below, leads-end}
+use Rattle.tailbiting.proofs.Tries.{end-below, leads-end}
 
 -- ---- one place
 cost-le : (place a b c d : ℕ) → costAt place a b c d ≤ 4
 cost-le place a b c d =
-    omega (arith, erased-le (outputAt 0b111011 place) a, erased-le (outputAt 0b100111 place) b, erased-le (outputAt 0b101111 place) c, erased-le (outputAt 0b110101 place) d)
+    omega (arith, erased-le (outputAt (taps facch 0) place) a, erased-le (outputAt (taps facch 1) place) b, erased-le (outputAt (taps facch 2) place) c, erased-le (outputAt (taps facch 3) place) d)
 
 cost-tally : (place a b c d : ℕ) (r : List ℕ) → costAt place a b c d ≡ tally erasedDiffer (outputsAt facch place) (a ∷ b ∷ c ∷ d ∷ r)
 unfolding tally
@@ -54,8 +54,8 @@ module _ (received symbols : List ℕ) (rows : List (List ℕ)) (height : length
       ∙ ap (tally erasedDiffer (outputsAt facch place)) (sym (step k h))
 
   -- no branch metric is above four
-  pub modest : Rows rows symbols
-  modest =
+  pub small-rows : Rows rows symbols
+  small-rows =
       record {
         symbol = λ k h. omega (arith, numbered k (omega arith));
         small = λ i g hi hg. omega (

@@ -2,4 +2,4 @@
 -- The laws.
 pub mod Branches
 pub mod Joined
-pub mod Turns
+pub mod Tries

@@ -3,13 +3,14 @@ use mathlib.Core.Path.{_≡_}
 use mathlib.Core.List.{List, []}
 use Prim.Native.Nat.{ℕ, _+_, _*_, _<_}
 use lib.ListN.{getD}
-use Rattle.search.specs.Row.{outputAt}
+use Rattle.coding.specs.Codes.{facch}
+use Rattle.search.specs.Row.{outputAt, taps}
 use Rattle.bits.specs.Observed.{erasedDiffer}
 
 -- the branch metric of a place against four received bytes
 abbrev pub costAt : ℕ → ℕ → ℕ → ℕ → ℕ → ℕ
 costAt place a b c d =
-    erasedDiffer (outputAt 0b111011 place) a + erasedDiffer (outputAt 0b100111 place) b + (erasedDiffer (outputAt 0b101111 place) c + erasedDiffer (outputAt 0b110101 place) d)
+    erasedDiffer (outputAt (taps facch 0) place) a + erasedDiffer (outputAt (taps facch 1) place) b + (erasedDiffer (outputAt (taps facch 2) place) c + erasedDiffer (outputAt (taps facch 3) place) d)
 
 -- the first k places of a row hold the branch metrics against four received bytes
 abbrev pub CostsTo : ℕ → ℕ → ℕ → ℕ → List ℕ → ℕ → Type 0

@@ -1,24 +1,20 @@
 // Ported from 136-bts, facch.rs, and changed (see NOTICE).
 // The branch metrics of the FACCH code against received bits, some of them unobserved.
 use bits::observed::erased_differs;
+use coding::facch::LOW_G0;
+use coding::facch::LOW_G1;
+use coding::facch::LOW_G2;
+use coding::facch::LOW_G3;
 use search::row::outputs;
 ghost use mathlib.Core.Bool.{true};
 ghost use mathlib.Core.Path.{_≡_};
 ghost use Prim.Native.Nat.{_*_, _<_, _≤_};
 ghost use lib.ListN.{length};
 ghost use Rattle.bits.specs.Bits.{bit};
-ghost use Rattle.search.specs.Row.{OutputsTo};
+ghost use Rattle.coding.specs.Codes.{facch};
+ghost use Rattle.search.specs.Row.{OutputsTo, taps};
 ghost use Rattle.tailbiting.specs.Rows.{CostsTo, NumbersTo, RowsTo};
 ghost use Rattle.bits.specs.Observed.{allErasable, erasedDiffer};
-
-// The generators of IS-54-B 2.7.3.1.1.4 as the engine numbers its states, the newest input lowest.
-const G0: u8 = 0b111011;
-
-const G1: u8 = 0b100111;
-
-const G2: u8 = 0b101111;
-
-const G3: u8 = 0b110101;
 
 // The branch metrics against four received bytes, by place.
 fn step_row(
@@ -32,7 +28,7 @@ fn step_row(
     fourth: u8,
 ) -> [u16; 64]
     requires { ⌜ (first < 3) × (second < 3) × (third < 3) × (fourth < 3) ⌝ }
-    requires { ⌜ OutputsTo 0b111011 (now p) 64 × OutputsTo 0b100111 (now q) 64 × OutputsTo 0b101111 (now r) 64 × OutputsTo 0b110101 (now s) 64 ⌝ }
+    requires { ⌜ OutputsTo (taps facch 0) (now p) 64 × OutputsTo (taps facch 1) (now q) 64 × OutputsTo (taps facch 2) (now r) 64 × OutputsTo (taps facch 3) (now s) 64 ⌝ }
     ensures { λ x. ⌜ CostsTo first second third fourth x 64 ⌝ }
 {
     let mut row = [0u16; 64];
@@ -49,10 +45,10 @@ pub fn fill_rows(received: &[u8], rows: &mut [[u16; 64]])
     requires { ⌜ (length (now rows) ≤ 65) × (length (now received) ≡ length (now rows) * 4) × (allErasable (now received) ≡ true) ⌝ }
     ensures { λ _. ⌜ RowsTo (now (received .entry)) (now (rows .exit)) (length (now (rows .entry))) ⌝ }
 {
-    let p = outputs(G0);
-    let q = outputs(G1);
-    let r = outputs(G2);
-    let s = outputs(G3);
+    let p = outputs(LOW_G0);
+    let q = outputs(LOW_G1);
+    let r = outputs(LOW_G2);
+    let s = outputs(LOW_G3);
     for step in 0..rows.len() {
         let first = received[step * 4];
         let second = received[step * 4 + 1];

@@ -39,22 +39,22 @@ cond-at f false = refl
 cond-at f true = refl
 
 -- ---- choices that differ
-pub differ-held : (held : ℕ) (u w : List Bool) → DifferAfter held u w → held < length u
-differ-held held [] w h = absurd h
-differ-held held (false ∷ u) [] h = absurd h
-differ-held held (true ∷ u) [] h = absurd h
-differ-held held (false ∷ u) (false ∷ w) h = let k : held < length u = differ-held held u w h in omega arith
-differ-held held (false ∷ u) (true ∷ w) h = omega arith
-differ-held held (true ∷ u) (false ∷ w) h = omega arith
-differ-held held (true ∷ u) (true ∷ w) h = let k : held < length u = differ-held held u w h in omega arith
+pub differ-since : (since : ℕ) (u w : List Bool) → DifferAfter since u w → since < length u
+differ-since since [] w h = absurd h
+differ-since since (false ∷ u) [] h = absurd h
+differ-since since (true ∷ u) [] h = absurd h
+differ-since since (false ∷ u) (false ∷ w) h = let k : since < length u = differ-since since u w h in omega arith
+differ-since since (false ∷ u) (true ∷ w) h = omega arith
+differ-since since (true ∷ u) (false ∷ w) h = omega arith
+differ-since since (true ∷ u) (true ∷ w) h = let k : since < length u = differ-since since u w h in omega arith
 
-pub differ-cons : (held : ℕ) (b : Bool) (u w : List Bool) → DifferAfter held u w → DifferAfter held (b ∷ u) (b ∷ w)
-differ-cons held false u w h = h
-differ-cons held true u w h = h
+pub differ-cons : (since : ℕ) (b : Bool) (u w : List Bool) → DifferAfter since u w → DifferAfter since (b ∷ u) (b ∷ w)
+differ-cons since false u w h = h
+differ-cons since true u w h = h
 
-pub differ-tail : (held : ℕ) (b : Bool) (u w : List Bool) → DifferAfter held (b ∷ u) (b ∷ w) → DifferAfter held u w
-differ-tail held false u w h = h
-differ-tail held true u w h = h
+pub differ-tail : (since : ℕ) (b : Bool) (u w : List Bool) → DifferAfter since (b ∷ u) (b ∷ w) → DifferAfter since u w
+differ-tail since false u w h = h
+differ-tail since true u w h = h
 
 module _ (X : Trellis ℕ) where
   pub metric-step : (n t : ℕ) → stateMetric wholes X (suc n) t ≡ candidate wholes X n t (decision wholes X n t)
@@ -145,30 +145,30 @@ module _ (X : Trellis ℕ) where
       go true false q = absurd (ne (sym q))
       go true true q = refl
 
-  pub tie-even : (held n t : ℕ) → candidate wholes X n t false ≡ candidate wholes X n t true → tie X held (suc n) t ≡ leb held n
+  pub tie-even : (since n t : ℕ) → candidate wholes X n t false ≡ candidate wholes X n t true → tie X since (suc n) t ≡ leb since n
   unfolding tie
-  tie-even held n t e = rw (eq-eqb (candidate wholes X n t false) (candidate wholes X n t true) e)
+  tie-even since n t e = rw (eq-eqb (candidate wholes X n t false) (candidate wholes X n t true) e)
 
-  cond-tie : (held n t : ℕ) (d : Bool)
-      → cond d (tie X held n (predecessor X t true)) (tie X held n (predecessor X t false)) ≡ tie X held n (predecessor X t d)
-  cond-tie held n t false = refl
-  cond-tie held n t true = refl
+  cond-tie : (since n t : ℕ) (d : Bool)
+      → cond d (tie X since n (predecessor X t true)) (tie X since n (predecessor X t false)) ≡ tie X since n (predecessor X t d)
+  cond-tie since n t false = refl
+  cond-tie since n t true = refl
 
-  pub tie-odd : (held n t : ℕ) → (candidate wholes X n t false ≡ candidate wholes X n t true → ⊥)
-      → tie X held (suc n) t ≡ tie X held n (predecessor X t (decision wholes X n t))
+  pub tie-odd : (since n t : ℕ) → (candidate wholes X n t false ≡ candidate wholes X n t true → ⊥)
+      → tie X since (suc n) t ≡ tie X since n (predecessor X t (decision wholes X n t))
   unfolding tie
-  tie-odd held n t ne = rw (ne-eqb (candidate wholes X n t false) (candidate wholes X n t true) ne) (cond-tie held n t (decision wholes X n t))
+  tie-odd since n t ne = rw (ne-eqb (candidate wholes X n t false) (candidate wholes X n t true) ne) (cond-tie since n t (decision wholes X n t))
 
-  -- no tie counts before `held`
-  pub tie-early : (held n t : ℕ) → n ≤ held → tie X held n t ≡ false
+  -- no tie counts before `since`
+  pub tie-early : (since n t : ℕ) → n ≤ since → tie X since n t ≡ false
   unfolding tie
-  tie-early held zero t h = refl
-  tie-early held (suc n) t h = go (ℕ-discrete (candidate wholes X n t false) (candidate wholes X n t true)) (tie-early held n (predecessor X t (decision wholes X n t)) (omega arith))
+  tie-early since zero t h = refl
+  tie-early since (suc n) t h = go (ℕ-discrete (candidate wholes X n t false) (candidate wholes X n t true)) (tie-early since n (predecessor X t (decision wholes X n t)) (omega arith))
     where
-      go : Dec (candidate wholes X n t false ≡ candidate wholes X n t true) → tie X held n (predecessor X t (decision wholes X n t)) ≡ false
-          → tie X held (suc n) t ≡ false
-      go (yes e) ih = tie-even held n t e ∙ lt-leb held n h
-      go (no ne) ih = tie-odd held n t ne ∙ ih
+      go : Dec (candidate wholes X n t false ≡ candidate wholes X n t true) → tie X since n (predecessor X t (decision wholes X n t)) ≡ false
+          → tie X since (suc n) t ≡ false
+      go (yes e) ih = tie-even since n t e ∙ lt-leb since n h
+      go (no ne) ih = tie-odd since n t ne ∙ ih
 
   -- a survivor with one choice more in front
   longer : (n t : ℕ) (b : Bool) (w : List Bool) → length w ≡ n → pathMetric X (predecessor X t b) w ≡ stateMetric wholes X n (predecessor X t b)
@@ -188,8 +188,8 @@ module _ (X : Trellis ℕ) where
       go true true = refl
 
   -- equal at the last step: the two survivors
-  tied-even : (held n t : ℕ) → candidate wholes X n t false ≡ candidate wholes X n t true → held ≤ n → TiedPaths X held (suc n) t
-  tied-even held n t e h =
+  tied-even : (since n t : ℕ) → candidate wholes X n t false ≡ candidate wholes X n t true → since ≤ n → TiedPaths X since (suc n) t
+  tied-even since n t e h =
       record {
         one = false ∷ survivor wholes X n (predecessor X t false);
         other = true ∷ survivor wholes X n (predecessor X t true);
@@ -197,13 +197,13 @@ module _ (X : Trellis ℕ) where
         other-length = ap suc (survivor-length n (predecessor X t true));
         one-least = longer n t false _ (survivor-length n (predecessor X t false)) (survivor-cost n (predecessor X t false)) (even-either n t e false);
         other-least = longer n t true _ (survivor-length n (predecessor X t true)) (survivor-cost n (predecessor X t true)) (even-either n t e true);
-        distinct = subst (λ (k : ℕ). held ≤ k) (sym (survivor-length n (predecessor X t false))) h;
+        distinct = subst (λ (k : ℕ). since ≤ k) (sym (survivor-length n (predecessor X t false))) h;
       }
 
   -- two paths into a predecessor that gives the metric, each with the step from it
-  tied-longer : (held n t : ℕ) (b : Bool) → candidate wholes X n t b ≡ stateMetric wholes X (suc n) t
-      → TiedPaths X held n (predecessor X t b) → TiedPaths X held (suc n) t
-  tied-longer held n t b v r =
+  tied-longer : (since n t : ℕ) (b : Bool) → candidate wholes X n t b ≡ stateMetric wholes X (suc n) t
+      → TiedPaths X since n (predecessor X t b) → TiedPaths X since (suc n) t
+  tied-longer since n t b v r =
       record {
         one = b ∷ r .one;
         other = b ∷ r .other;
@@ -211,34 +211,34 @@ module _ (X : Trellis ℕ) where
         other-length = ap suc (r .other-length);
         one-least = longer n t b (r .one) (r .one-length) (r .one-least) v;
         other-least = longer n t b (r .other) (r .other-length) (r .other-least) v;
-        distinct = differ-cons held b (r .one) (r .other) (r .distinct);
+        distinct = differ-cons since b (r .one) (r .other) (r .distinct);
       }
 
   -- a tie: two such paths
-  pub tie-sound : (held n t : ℕ) → tie X held n t ≡ true → TiedPaths X held n t
+  pub tie-sound : (since n t : ℕ) → tie X since n t ≡ true → TiedPaths X since n t
   unfolding tie
-  tie-sound held zero t h = absurd (subst T (sym h) tt)
-  tie-sound held (suc n) t h = go (ℕ-discrete (candidate wholes X n t false) (candidate wholes X n t true)) (tie-sound held n (predecessor X t (decision wholes X n t)))
+  tie-sound since zero t h = absurd (subst T (sym h) tt)
+  tie-sound since (suc n) t h = go (ℕ-discrete (candidate wholes X n t false) (candidate wholes X n t true)) (tie-sound since n (predecessor X t (decision wholes X n t)))
     where
       go : Dec (candidate wholes X n t false ≡ candidate wholes X n t true)
-          → (tie X held n (predecessor X t (decision wholes X n t)) ≡ true → TiedPaths X held n (predecessor X t (decision wholes X n t)))
-          → TiedPaths X held (suc n) t
-      go (yes e) ih = tied-even held n t e (leb-true held n (sym (tie-even held n t e) ∙ h))
-      go (no ne) ih = tied-longer held n t (decision wholes X n t) (sym (metric-step n t)) (ih (sym (tie-odd held n t ne) ∙ h))
+          → (tie X since n (predecessor X t (decision wholes X n t)) ≡ true → TiedPaths X since n (predecessor X t (decision wholes X n t)))
+          → TiedPaths X since (suc n) t
+      go (yes e) ih = tied-even since n t e (leb-true since n (sym (tie-even since n t e) ∙ h))
+      go (no ne) ih = tied-longer since n t (decision wholes X n t) (sym (metric-step n t)) (ih (sym (tie-odd since n t ne) ∙ h))
 
   -- one step of the converse
-  tie-step : (held t : ℕ) (x y : Bool) (u w : List Bool) → length w ≡ length u
+  tie-step : (since t : ℕ) (x y : Bool) (u w : List Bool) → length w ≡ length u
       → pathMetric X t (x ∷ u) ≡ stateMetric wholes X (suc (length u)) t
-      → pathMetric X t (y ∷ w) ≡ stateMetric wholes X (suc (length u)) t → DifferAfter held (x ∷ u) (y ∷ w)
+      → pathMetric X t (y ∷ w) ≡ stateMetric wholes X (suc (length u)) t → DifferAfter since (x ∷ u) (y ∷ w)
       → Dec (candidate wholes X (length u) t false ≡ candidate wholes X (length u) t true)
       → (length w ≡ length u → pathMetric X (predecessor X t x) u ≡ stateMetric wholes X (length u) (predecessor X t x)
-      → pathMetric X (predecessor X t x) w ≡ stateMetric wholes X (length u) (predecessor X t x) → DifferAfter held u w
-      → tie X held (length u) (predecessor X t x) ≡ true)
-      → tie X held (suc (length u)) t ≡ true
-  tie-step held t x y u w l p q a (yes e) ih =
-      let h : held < suc (length u) = differ-held held (x ∷ u) (y ∷ w) a in
-      tie-even held (length u) t e ∙ le-leb held (length u) (omega arith)
-  tie-step held t x y u w l p q a (no ne) ih =
+      → pathMetric X (predecessor X t x) w ≡ stateMetric wholes X (length u) (predecessor X t x) → DifferAfter since u w
+      → tie X since (length u) (predecessor X t x) ≡ true)
+      → tie X since (suc (length u)) t ≡ true
+  tie-step since t x y u w l p q a (yes e) ih =
+      let h : since < suc (length u) = differ-since since (x ∷ u) (y ∷ w) a in
+      tie-even since (length u) t e ∙ le-leb since (length u) (omega arith)
+  tie-step since t x y u w l p q a (no ne) ih =
       let n : ℕ = length u in
       let q' : pathMetric X t (y ∷ w) ≡ stateMetric wholes X (suc (length w)) t = q ∙ ap (λ (k : ℕ). stateMetric wholes X (suc k) t) (sym l) in
       let us : (pathMetric X (predecessor X t x) u ≡ stateMetric wholes X n (predecessor X t x)) × (candidate wholes X n t x ≡ stateMetric wholes X (suc n) t) = tail-least t x u p in
@@ -249,14 +249,14 @@ module _ (X : Trellis ℕ) where
       let cw : pathMetric X (predecessor X t x) w ≡ stateMetric wholes X n (predecessor X t x) =
       subst (λ (z : Bool). pathMetric X (predecessor X t z) w ≡ stateMetric wholes X n (predecessor X t z)) yx
       (subst (λ (k : ℕ). pathMetric X (predecessor X t y) w ≡ stateMetric wholes X k (predecessor X t y)) l (ws .0)) in
-      let a' : DifferAfter held u w = differ-tail held x u w (subst (λ (z : Bool). DifferAfter held (x ∷ u) (z ∷ w)) yx a) in
-      tie-odd held n t ne ∙ ap (λ (z : Bool). tie X held n (predecessor X t z)) (sym ex) ∙ ih l (us .0) cw a'
+      let a' : DifferAfter since u w = differ-tail since x u w (subst (λ (z : Bool). DifferAfter since (x ∷ u) (z ∷ w)) yx a) in
+      tie-odd since n t ne ∙ ap (λ (z : Bool). tie X since n (predecessor X t z)) (sym ex) ∙ ih l (us .0) cw a'
 
   -- two such paths: a tie
-  pub tie-complete : (held : ℕ) (t : ℕ) (u w : List Bool) → length w ≡ length u → pathMetric X t u ≡ stateMetric wholes X (length u) t
-      → pathMetric X t w ≡ stateMetric wholes X (length u) t → DifferAfter held u w → tie X held (length u) t ≡ true
-  tie-complete held t [] w l p q a = absurd a
-  tie-complete held t (x ∷ u) [] l p q a = let z : ⊥ = omega arith in absurd z
-  tie-complete held t (x ∷ u) (y ∷ w) l p q a =
-      tie-step held t x y u w (omega arith) p q a (ℕ-discrete (candidate wholes X (length u) t false) (candidate wholes X (length u) t true))
-      (tie-complete held (predecessor X t x) u w)
+  pub tie-complete : (since : ℕ) (t : ℕ) (u w : List Bool) → length w ≡ length u → pathMetric X t u ≡ stateMetric wholes X (length u) t
+      → pathMetric X t w ≡ stateMetric wholes X (length u) t → DifferAfter since u w → tie X since (length u) t ≡ true
+  tie-complete since t [] w l p q a = absurd a
+  tie-complete since t (x ∷ u) [] l p q a = let z : ⊥ = omega arith in absurd z
+  tie-complete since t (x ∷ u) (y ∷ w) l p q a =
+      tie-step since t x y u w (omega arith) p q a (ℕ-discrete (candidate wholes X (length u) t false) (candidate wholes X (length u) t true))
+      (tie-complete since (predecessor X t x) u w)

@@ -8,7 +8,7 @@ use native.Mathlib.Decide.{decLe}
 use lib.ListN.{length, take}
 use Rattle.trellis.specs.Search.{Precedes}
 use Rattle.trellis.specs.Trellis.{DifferAfter}
-use Rattle.trellis.proofs.Optimal.{differ-held}
+use Rattle.trellis.proofs.Optimal.{differ-since}
 
 pub precedes-prefix : (p u w : List Bool) → Precedes u w → Precedes (p ++ u) (p ++ w)
 precedes-prefix [] u w h = h
@@ -49,32 +49,32 @@ precedes-both (false ∷ u) (true ∷ w) l p q = absurd q
 precedes-both (true ∷ u) (false ∷ w) l p q = absurd p
 precedes-both (true ∷ u) (true ∷ w) l p q = ap (λ (v : List Bool). true ∷ v) (precedes-both u w (omega arith) p q)
 
--- ---- choices that differ after the first `held` differ in their newest part, and the other way round
+-- ---- choices that differ after the first `since` differ in their newest part, and the other way round
 
-module _ (held : ℕ) where
-  newer : (c : List Bool) → held ≤ length c → suc (length c) - held ≡ suc (length c - held)
+module _ (since : ℕ) where
+  newer : (c : List Bool) → since ≤ length c → suc (length c) - since ≡ suc (length c - since)
   newer c h = omega arith
 
-  same-step : (x y : Bool) (c d : List Bool) → held ≤ length c → (DifferAfter held (x ∷ c) (y ∷ d) → ⊥) → ((DifferAfter held c d → ⊥) → take (length c - held) c ≡ take (length c - held) d)
-      → x ∷ take (length c - held) c ≡ y ∷ take (length c - held) d
+  same-step : (x y : Bool) (c d : List Bool) → since ≤ length c → (DifferAfter since (x ∷ c) (y ∷ d) → ⊥) → ((DifferAfter since c d → ⊥) → take (length c - since) c ≡ take (length c - since) d)
+      → x ∷ take (length c - since) c ≡ y ∷ take (length c - since) d
   same-step false false c d h n ih = ap (λ (l : List Bool). false ∷ l) (ih n)
   same-step false true c d h n ih = absurd (n h)
   same-step true false c d h n ih = absurd (n h)
   same-step true true c d h n ih = ap (λ (l : List Bool). true ∷ l) (ih n)
 
-  pub same-newer : (c d : List Bool) → length c ≡ length d → (DifferAfter held c d → ⊥) → take (length c - held) c ≡ take (length c - held) d
+  pub same-newer : (c d : List Bool) → length c ≡ length d → (DifferAfter since c d → ⊥) → take (length c - since) c ≡ take (length c - since) d
   same-newer [] [] l n = refl
   same-newer [] (y ∷ d) l n = let z : ⊥ = omega arith in absurd z
   same-newer (x ∷ c) [] l n = let z : ⊥ = omega arith in absurd z
-  same-newer (x ∷ c) (y ∷ d) l n = go (decLe held (length c)) (same-newer c d (omega arith))
+  same-newer (x ∷ c) (y ∷ d) l n = go (decLe since (length c)) (same-newer c d (omega arith))
     where
-      go : Dec (held ≤ length c) → ((DifferAfter held c d → ⊥) → take (length c - held) c ≡ take (length c - held) d)
-          → take (suc (length c) - held) (x ∷ c) ≡ take (suc (length c) - held) (y ∷ d)
+      go : Dec (since ≤ length c) → ((DifferAfter since c d → ⊥) → take (length c - since) c ≡ take (length c - since) d)
+          → take (suc (length c) - since) (x ∷ c) ≡ take (suc (length c) - since) (y ∷ d)
       go (yes h) ih = subst (λ (m : ℕ). take m (x ∷ c) ≡ take m (y ∷ d)) (sym (newer c h)) (same-step x y c d h n ih)
-      go (no h) ih = let e : 0 ≡ suc (length c) - held = omega arith in subst (λ (m : ℕ). take m (x ∷ c) ≡ take m (y ∷ d)) e refl
+      go (no h) ih = let e : 0 ≡ suc (length c) - since = omega arith in subst (λ (m : ℕ). take m (x ∷ c) ≡ take m (y ∷ d)) e refl
 
-  differ-step : (x y : Bool) (c d : List Bool) → (DifferAfter held c d → take (length c - held) c ≡ take (length c - held) d → ⊥)
-      → DifferAfter held (x ∷ c) (y ∷ d) → x ∷ take (length c - held) c ≡ y ∷ take (length c - held) d → ⊥
+  differ-step : (x y : Bool) (c d : List Bool) → (DifferAfter since c d → take (length c - since) c ≡ take (length c - since) d → ⊥)
+      → DifferAfter since (x ∷ c) (y ∷ d) → x ∷ take (length c - since) c ≡ y ∷ take (length c - since) d → ⊥
   differ-step false false c d ih a e = ih a (cc)
   differ-step false true c d ih a e = let z : _≡_ {A = Bool} false true = cc in let w : _≡_ {A = ℕ} 0 1 = ap bitN z in omega arith
     where
@@ -88,20 +88,20 @@ module _ (held : ℕ) where
       bitN true = 1
   differ-step true true c d ih a e = ih a (cc)
 
-  pub differ-newer : (c d : List Bool) → length c ≡ length d → DifferAfter held c d → take (length c - held) c ≡ take (length c - held) d → ⊥
+  pub differ-newer : (c d : List Bool) → length c ≡ length d → DifferAfter since c d → take (length c - since) c ≡ take (length c - since) d → ⊥
   differ-newer [] [] l a e = a
   differ-newer [] (y ∷ d) l a e = a
   differ-newer (x ∷ c) [] l a e = omega arith
   differ-newer (x ∷ c) (y ∷ d) l a e =
-      let h : held < suc (length c) = differ-held held (x ∷ c) (y ∷ d) a in
+      let h : since < suc (length c) = differ-since since (x ∷ c) (y ∷ d) a in
       differ-step x y c d (differ-newer c d (omega arith)) a (subst (λ (m : ℕ). take m (x ∷ c) ≡ take m (y ∷ d)) (newer c (omega arith)) e)
 
 -- ---- whether two paths differ so is decided
-pub decDiffer : (held : ℕ) (c d : List Bool) → Dec (DifferAfter held c d)
-decDiffer held [] d = no (λ a. a)
-decDiffer held (false ∷ c) [] = no (λ a. a)
-decDiffer held (true ∷ c) [] = no (λ a. a)
-decDiffer held (false ∷ c) (false ∷ d) = decDiffer held c d
-decDiffer held (false ∷ c) (true ∷ d) = decLe held (length c)
-decDiffer held (true ∷ c) (false ∷ d) = decLe held (length c)
-decDiffer held (true ∷ c) (true ∷ d) = decDiffer held c d
+pub decDiffer : (since : ℕ) (c d : List Bool) → Dec (DifferAfter since c d)
+decDiffer since [] d = no (λ a. a)
+decDiffer since (false ∷ c) [] = no (λ a. a)
+decDiffer since (true ∷ c) [] = no (λ a. a)
+decDiffer since (false ∷ c) (false ∷ d) = decDiffer since c d
+decDiffer since (false ∷ c) (true ∷ d) = decLe since (length c)
+decDiffer since (true ∷ c) (false ∷ d) = decLe since (length c)
+decDiffer since (true ∷ c) (true ∷ d) = decDiffer since c d

@@ -55,14 +55,14 @@ module _ {C : Type 0} (K : Costs C) (X : Trellis C) where
 
 -- ---- paths, their metrics and their order
 
--- the newest choice at which u and w differ has at least `held` choices before it
+-- the newest choice at which u and w differ has at least `since` choices before it
 abbrev pub DifferAfter : ℕ → List Bool → List Bool → Type 0
-DifferAfter held [] w = ⊥
-DifferAfter held (a ∷ u) [] = ⊥
-DifferAfter held (false ∷ u) (false ∷ w) = DifferAfter held u w
-DifferAfter held (false ∷ u) (true ∷ w) = held ≤ length u
-DifferAfter held (true ∷ u) (false ∷ w) = held ≤ length u
-DifferAfter held (true ∷ u) (true ∷ w) = DifferAfter held u w
+DifferAfter since [] w = ⊥
+DifferAfter since (a ∷ u) [] = ⊥
+DifferAfter since (false ∷ u) (false ∷ w) = DifferAfter since u w
+DifferAfter since (false ∷ u) (true ∷ w) = since ≤ length u
+DifferAfter since (true ∷ u) (false ∷ w) = since ≤ length u
+DifferAfter since (true ∷ u) (true ∷ w) = DifferAfter since u w
 
 -- the state where a path into t begins
 unfoldable pub origin : Numbering → ℕ → List Bool → ℕ
@@ -80,18 +80,18 @@ module _ (X : Trellis ℕ) where
   pathMetric t [] = X .start t
   pathMetric t (b ∷ w) = pathMetric (predecessor X t b) w + branchInto X (length w) t b
 
-  -- two paths of n steps into t share the least metric, and differ at a choice after the first `held`
+  -- two paths of n steps into t share the least metric, and differ at a choice after the first `since`
   unfoldable pub tie : ℕ → ℕ → ℕ → Bool
-  tie held zero t = false
-  tie held (suc n) t =
-      cond (eqb (candidate wholes X n t false) (candidate wholes X n t true)) (leb held n)
-      (cond (decision wholes X n t) (tie held n (predecessor X t true)) (tie held n (predecessor X t false)))
+  tie since zero t = false
+  tie since (suc n) t =
+      cond (eqb (candidate wholes X n t false) (candidate wholes X n t true)) (leb since n)
+      (cond (decision wholes X n t) (tie since n (predecessor X t true)) (tie since n (predecessor X t false)))
 
-  pub record TiedPaths (held n t : ℕ) : Type 0 where
+  pub record TiedPaths (since n t : ℕ) : Type 0 where
     pub one : List Bool
     pub other : List Bool
     pub one-length : length one ≡ n
     pub other-length : length other ≡ n
     pub one-least : pathMetric t one ≡ stateMetric wholes X n t
     pub other-least : pathMetric t other ≡ stateMetric wholes X n t
-    pub distinct : DifferAfter held one other
+    pub distinct : DifferAfter since one other

@@ -12,15 +12,15 @@ use Rattle.coding.specs.Codes.{dcch}
 use Rattle.coding.specs.Registers.{memoryLow}
 use Rattle.search.specs.Forward.{branchBy, Rows}
 use Rattle.trellis.specs.Numbering.{newestLow}
-use Rattle.search.specs.Row.{outputAt}
+use Rattle.search.specs.Row.{outputAt, taps}
 use Rattle.trellis.specs.Words.{wordMetric}
 use Rattle.search.proofs.ByPlace.{RowAt, metric-coded, outputsAt}
 use Rattle.viterbi.specs.Hard.{weightFrom}
 use Rattle.viterbi.specs.Rows.{distanceAt, PairsTo, pairOf, SymbolsTo}
 
 -- ---- one place
-distance-le : (place : ℕ) (first second : Bool) → distanceAt place first second ≤ 2
-distance-le place first second = omega (arith, differ-le (outputAt 0b101011 place) first, differ-le (outputAt 0b111101 place) second)
+pub distance-le : (place : ℕ) (first second : Bool) → distanceAt place first second ≤ 2
+distance-le place first second = omega (arith, differ-le (outputAt (taps dcch 0) place) first, differ-le (outputAt (taps dcch 1) place) second)
 
 distance-tally : (place : ℕ) (first second : Bool) (r : List Bool) → distanceAt place first second ≡ tally differ (outputsAt dcch place) (first ∷ second ∷ r)
 unfolding tally
@@ -55,8 +55,8 @@ module _ (coded symbols : List ℕ) (rows : List (List ℕ)) (n : ℕ) (four : l
   metric-weight = metric-coded dcch differ (bits coded) rows symbols tt n row
 
   -- no branch metric is above two
-  pub modest : Rows rows symbols
-  modest =
+  pub small-rows : Rows rows symbols
+  small-rows =
       record {
         symbol = λ k h. omega (arith, symbol k (omega arith) .0);
         small = λ i g hi hg. omega (arith, pairs i (omega arith) g hg, distance-le g (bit (i / 2)) (bit (i % 2)));

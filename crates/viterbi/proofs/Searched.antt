@@ -18,7 +18,7 @@ use Rattle.trellis.proofs.PathWord.{leads-terminated, terminated-leads}
 use Rattle.trellis.proofs.Searching.{found-to, found-first-to}
 use Rattle.viterbi.specs.Hard.{weight, freeWeight}
 use Rattle.viterbi.specs.Rows.{PairsTo, SymbolsTo}
-use Rattle.viterbi.proofs.Branches.{metric-weight, modest}
+use Rattle.viterbi.proofs.Branches.{metric-weight, small-rows}
 use Rattle.viterbi.proofs.Weights.{free-weight}
 
 pub asks-fill : (n : ℕ) (coded l : List ℕ) → n ≤ 130 → n ≤ length l → length coded ≡ n * 2 → allBinary coded ≡ true
@@ -41,7 +41,7 @@ module _ (coded : List ℕ) (rows : List (List ℕ)) (n : ℕ) (four : length ro
       × (n ≡ length (take n (symbols ++ drop n l))) × Rows rows (take n (symbols ++ drop n l))
   asks-search h5 hn =
       subst (λ (x : List ℕ). (5 ≤ length x) × (length x ≤ 130) × (n ≡ length x) × Rows rows x) (sym part)
-      (omega (arith, size), omega (arith, size), sym size, modest coded symbols rows n four size twice binary pairs read-all)
+      (omega (arith, size), omega (arith, size), sym size, small-rows coded symbols rows n four size twice binary pairs read-all)
 
   pub found-terminated : 5 ≤ n → (word : List ℕ) (r : Outcome)
       → FoundFirst (Leads newestLow 0 0 (length (take n (symbols ++ drop n l)))) (wordMetric newestLow (branchBy rows (take n (symbols ++ drop n l))) 0) word r

@@ -1,6 +1,8 @@
 // Hard-decision searches of the code of DCCH, SACCH and VSELP: specs/Hard.antt says what they find.
 // Ported from 136-bts (see NOTICE): `viterbi` of dcch.rs and the searches of sacch.rs and speech.rs, as one.
 use bits::differs;
+use coding::acelp::G0;
+use coding::acelp::G1;
 use search::row::outputs;
 use trellis::Outcome;
 ghost use mathlib.Core.Bool.{true};
@@ -8,20 +10,16 @@ ghost use mathlib.Core.Path.{_≡_};
 ghost use Prim.Native.Nat.{_*_, _<_, _≤_};
 ghost use lib.ListN.{length};
 ghost use Rattle.bits.specs.Bits.{allBinary, bit, bits};
-ghost use Rattle.search.specs.Row.{OutputsTo};
+ghost use Rattle.coding.specs.Codes.{dcch};
+ghost use Rattle.search.specs.Row.{OutputsTo, taps};
 ghost use Rattle.trellis.specs.Search.{Found, FoundFirst};
 ghost use Rattle.trellis.specs.Words.{OfLength, Terminated};
 ghost use Rattle.viterbi.specs.Hard.{freeWeight, weight};
 ghost use Rattle.viterbi.specs.Rows.{DistancesTo, PairsTo, SymbolsTo};
 
-// The generators as the engine numbers its states, the newest input lowest.
-const G0: u8 = 0b101011;
-
-const G1: u8 = 0b111101;
-
 // The disagreements with a received pair, by place.
 fn pair_row(p: &[u8; 64], q: &[u8; 64], first: u8, second: u8) -> [u16; 64]
-    requires { ⌜ (first < 2) × (second < 2) × OutputsTo 0b101011 (now p) 64 × OutputsTo 0b111101 (now q) 64 ⌝ }
+    requires { ⌜ (first < 2) × (second < 2) × OutputsTo (taps dcch 0) (now p) 64 × OutputsTo (taps dcch 1) (now q) 64 ⌝ }
     ensures { λ r. ⌜ DistancesTo (bit first) (bit second) r 64 ⌝ }
 {
     let mut row = [0u16; 64];

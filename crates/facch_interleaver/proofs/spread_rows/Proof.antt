@@ -35,7 +35,10 @@ loop-less : tie.Need-loop-less Inv-loop μ-loop
 loop-less c = search needs
 
 loop-again : tie.Need-loop-again Inv-loop μ-loop
-loop-again c = (omega arith, rows-more _ (c .before .before .before .before .before .loop .inv .1) (c .before .before .before .before .before .before .before .before .pre .0) refl (c .before .before .spread-row .ensures))
+loop-again c =
+    let at = c .before .before .before .before .before in
+    let entry = at .before .before .before in
+    (omega arith, rows-more _ (at .loop .inv .1) (entry .pre .0) refl (c .before .before .spread-row .ensures))
 
 same-length : tie.Need-same-length Inv-loop μ-loop
 same-length c = c .before .loop .inv .1 .size ∙ sym (c .before .before .before .before .pre .2)

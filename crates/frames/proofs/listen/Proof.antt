@@ -3,7 +3,7 @@ use mathlib.Core.Path.{_≡_, ap}
 use Prim.Native.Nat.{ℕ, _-_}
 use native.Mathlib.Omega.{arith}
 use lib.ListN.{length}
-use Rattle.frames.specs.Turns.{Reached}
+use Rattle.frames.specs.Pieces.{Reached}
 use Rattle.frames.proofs.Reaching.{start-reached}
 use lib.ListN.{length-replicate}
 use borrow.Author.Needs.{needs}
@@ -25,29 +25,29 @@ loop-holds c = (start-reached _ _ _ (c .start .ensures) (c .before .before .befo
 sub-turns : tie.Need-sub-turns Inv-loop μ-loop
 sub-turns c = search needs
 
-take-turn-requires : tie.Need-take-turn-requires Inv-loop μ-loop
-take-turn-requires c κs = c .before .before .before .before .before .loop .inv
+answer-piece-requires : tie.Need-answer-piece-requires Inv-loop μ-loop
+answer-piece-requires c κs = c .before .before .before .before .before .loop .inv
 
 same-length : tie.Need-same-length Inv-loop μ-loop
-same-length c = omega (arith, c .before .before .before .before .before .before .before .before .before .before .take-turn .ensures .1 .1, c .before .before .before .before .before .before .before .before .before .before .before .before .before .before .before .before .before .before .before .before .before .before .pre .2)
+same-length c = omega (arith, c .before .before .before .before .before .before .before .before .before .before .answer-piece .ensures .1 .1, c .before .before .before .before .before .before .before .before .before .before .before .before .before .before .before .before .before .before .before .before .before .before .pre .2)
 
 same-length-2 : tie.Need-same-length-2 Inv-loop μ-loop
-same-length-2 c = omega (arith, c .before .before .before .before .before .before .before .before .before .before .take-turn .ensures .1 .0 .sound .long, c .before .before .before .before .before .before .before .before .before .before .before .before .before .before .before .before .before .before .before .before .before .before .pre .0)
+same-length-2 c = omega (arith, c .before .before .before .before .before .before .before .before .before .before .answer-piece .ensures .1 .0 .fits .long, c .before .before .before .before .before .before .before .before .before .before .before .before .before .before .before .before .before .before .before .before .before .before .pre .0)
 
 same-length-3 : tie.Need-same-length-3 Inv-loop μ-loop
-same-length-3 c = omega (arith, c .before .before .before .before .before .before .before .before .before .before .take-turn .ensures .1 .0 .sound .modest .codes, ap length (c .before .before .before .before .before .before .before .before .before .before .before .before .before .before .before .before .before .before .before .before .before .before .pre .1), length-replicate {A = ℕ} 256 0)
+same-length-3 c = omega (arith, c .before .before .before .before .before .before .before .before .before .before .answer-piece .ensures .1 .0 .fits .bounds .codes, ap length (c .before .before .before .before .before .before .before .before .before .before .before .before .before .before .before .before .before .before .before .before .before .before .pre .1), length-replicate {A = ℕ} 256 0)
 
 same-length-4 : tie.Need-same-length-4 Inv-loop μ-loop
-same-length-4 c = omega (arith, c .before .before .before .before .before .before .before .before .before .before .take-turn .ensures .1 .2, c .before .before .before .before .before .before .before .before .before .before .before .before .before .before .before .before .before .before .before .before .before .before .pre .3)
+same-length-4 c = omega (arith, c .before .before .before .before .before .before .before .before .before .before .answer-piece .ensures .1 .2, c .before .before .before .before .before .before .before .before .before .before .before .before .before .before .before .before .before .before .before .before .before .before .pre .3)
 
 returns : tie.Need-returns Inv-loop μ-loop
-returns c = (c .before .before .before .before .before .before .before .before .before .before .take-turn .ensures .1 .0, c .before .before .before .before .before .before .before .before .before .before .take-turn .ensures .1 .2)
+returns c = (c .before .before .before .before .before .before .before .before .before .before .answer-piece .ensures .1 .0, c .before .before .before .before .before .before .before .before .before .before .answer-piece .ensures .1 .2)
 
 loop-less : tie.Need-loop-less Inv-loop μ-loop
 loop-less c = search needs
 
 loop-again : tie.Need-loop-again Inv-loop μ-loop
-loop-again c = c .before .before .before .before .before .before .before .before .before .before .before .take-turn .ensures .1
+loop-again c = c .before .before .before .before .before .before .before .before .before .before .before .answer-piece .ensures .1
 
 same-length-5 : tie.Need-same-length-5 Inv-loop μ-loop
 same-length-5 c = search needs
@@ -73,7 +73,7 @@ listen-spec =
     start-requires
     loop-holds
     sub-turns
-    take-turn-requires
+    answer-piece-requires
     same-length
     same-length-2
     same-length-3

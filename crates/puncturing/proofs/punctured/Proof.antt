@@ -1,6 +1,6 @@
 -- `puncturing::punctured` meets its contract: the engine searches the words of the code. Assumes nothing.
 use native.Mathlib.Omega.{arith}
-use Rattle.puncturing.proofs.Branches.{modest, found}
+use Rattle.puncturing.proofs.Branches.{small-rows, found}
 use borrow.Author.Needs.{needs}
 use Rattle.puncturing.proofs.punctured.Statement.{statement}
 use Rattle.puncturing.proofs.punctured.Tie as tie
@@ -30,7 +30,7 @@ nearest-between-requires c κs =
       omega arith,
       omega arith,
       omega arith,
-      modest (begin .args .coded .now) _ _ (begin .pre .0) (omega arith) (begin .pre .2) (rows .ensures) (filled .ensures),
+      small-rows (begin .args .coded .now) _ _ (begin .pre .0) (omega arith) (begin .pre .2) (rows .ensures) (filled .ensures),
     )
 
 same-length : tie.Need-same-length

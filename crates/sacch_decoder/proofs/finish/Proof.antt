@@ -18,7 +18,10 @@ verdict-requires : tie.Need-verdict-requires
 verdict-requires c κs = search needs
 
 returns : tie.Need-returns
-returns c = c .verdict .ensures ∙ finished-is _ (c .before .before .before .before .before .pre .1) (c .before .before .before .before .before .args .found .tie) _ _ (c .before .before .before .crc-valid .ensures) (c .before .before .content .ensures)
+returns c =
+    let at-crc-valid = c .before .before .before in
+    let entry = at-crc-valid .before .before in
+    c .verdict .ensures ∙ finished-is _ (entry .pre .1) (entry .args .found .tie) _ _ (at-crc-valid .crc-valid .ensures) (c .before .before .content .ensures)
 
 pub finish-spec : {M : Type 1} → statement M
 finish-spec =

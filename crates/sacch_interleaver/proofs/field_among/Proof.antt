@@ -23,11 +23,11 @@ mul-field c = search needs
 shared-slice-read-field : tie.Need-shared-slice-read-field Inv-loop μ-loop
 shared-slice-read-field c = search needs
 
-sub-weight : tie.Need-sub-weight Inv-loop μ-loop
-sub-weight c = search needs
+sub-bit-value : tie.Need-sub-bit-value Inv-loop μ-loop
+sub-bit-value c = search needs
 
-weight-requires : tie.Need-weight-requires Inv-loop μ-loop
-weight-requires c κs = search needs
+bit-value-requires : tie.Need-bit-value-requires Inv-loop μ-loop
+bit-value-requires c κs = search needs
 
 add-i : tie.Need-add-i Inv-loop μ-loop
 add-i c = search needs
@@ -39,7 +39,7 @@ loop-again : tie.Need-loop-again Inv-loop μ-loop
 loop-again c =
     let at = c .before .before .before .loop in
     let next = c .before .before .before .before .before .args .next in
-    weighing-more (at .inv) ((at .i + (12 - next)) % 12) (omega arith) (omega arith) (omega arith) (λ t h e. omega arith) refl (c .weight .ensures)
+    weighing-more (at .inv) ((at .i + (12 - next)) % 12) (omega arith) (omega arith) (omega arith) (λ t h e. omega arith) refl (c .bit-value .ensures)
 
 returns : tie.Need-returns Inv-loop μ-loop
 unfolding fieldOf
@@ -54,8 +54,8 @@ field-among-spec =
     loop-holds
     mul-field
     shared-slice-read-field
-    sub-weight
-    weight-requires
+    sub-bit-value
+    bit-value-requires
     add-i
     loop-less
     loop-again

@@ -23,11 +23,11 @@ mul-row c = search needs
 array-read-row : tie.Need-array-read-row Inv-loop μ-loop
 array-read-row c = search needs
 
-sub-weight : tie.Need-sub-weight Inv-loop μ-loop
-sub-weight c = search needs
+sub-bit-value : tie.Need-sub-bit-value Inv-loop μ-loop
+sub-bit-value c = search needs
 
-weight-requires : tie.Need-weight-requires Inv-loop μ-loop
-weight-requires c κs = search needs
+bit-value-requires : tie.Need-bit-value-requires Inv-loop μ-loop
+bit-value-requires c κs = search needs
 
 add-i : tie.Need-add-i Inv-loop μ-loop
 add-i c = search needs
@@ -39,7 +39,7 @@ loop-again : tie.Need-loop-again Inv-loop μ-loop
 loop-again c =
     let at = c .before .before .loop in
     let next = c .before .before .before .args .next in
-    weighing-more (at .inv) ((11 - at .i + next) % 12) (omega arith) (omega arith) (omega arith) (λ t h e. omega arith) refl (c .weight .ensures)
+    weighing-more (at .inv) ((11 - at .i + next) % 12) (omega arith) (omega arith) (omega arith) (λ t h e. omega arith) refl (c .bit-value .ensures)
 
 returns : tie.Need-returns Inv-loop μ-loop
 unfolding rowOf
@@ -54,8 +54,8 @@ row-of-spec =
     loop-holds
     mul-row
     array-read-row
-    sub-weight
-    weight-requires
+    sub-bit-value
+    bit-value-requires
     add-i
     loop-less
     loop-again

@@ -22,7 +22,11 @@ added-requires : tie.Need-added-requires
 added-requires c κs = search needs
 
 count-requires : tie.Need-count-requires
-count-requires c κs = (c .before .before .before .before .before .before .before .before .before .before .before .pre .0 .modest .codes, omega (arith, c .before .before .before .before .before .before .before .before .before .before .before .pre .0 .modest .each (c .before .before .before .reply-to .result .dvcc), c .before .before .before .before .before .before .before .before .before .before .before .pre .0 .modest .words, c .before .before .before .before .before .if1 .left), c .before .added .ensures .1 .one)
+count-requires c κs =
+    let at-reply-to = c .before .before .before in
+    let at-if1 = at-reply-to .before .before in
+    let entry = at-if1 .before .before .before .before .before .before in
+    (entry .pre .0 .bounds .codes, omega (arith, entry .pre .0 .bounds .each (at-reply-to .reply-to .result .dvcc), entry .pre .0 .bounds .words, at-if1 .if1 .left), c .before .added .ensures .1 .one)
 
 put-reply-requires : tie.Need-put-reply-requires
 put-reply-requires c κs = search needs
@@ -40,7 +44,15 @@ same-length-2 : tie.Need-same-length-2
 same-length-2 c = search needs
 
 returns-2 : tie.Need-returns-2
-returns-2 c = line-some _ _ _ _ _ _ _ _ _ _ _ (c .before .before .before .before .before .before .before .before .before .before .before .before .before .if1 .left) (c .before .before .before .before .before .before .before .before .before .before .before .reply-to .ensures) (c .before .before .before .before .before .before .before .before .before .added .ensures .0) (c .before .before .before .before .before .before .before .before .before .added .ensures .1) (c .sum .ensures) (c .before .before .before .before .before .before .before .count .ensures) (c .before .before .before .put-reply .ensures .0) (c .before .before .before .put-reply .ensures .1) (c .before .before .before .before .before .before .before .before .before .before .before .before .before .before .before .before .before .before .before .pre .0)
+returns-2 c =
+    let at-put-reply = c .before .before .before in
+    let at-count = at-put-reply .before .before .before .before in
+    let at-added = at-count .before .before in
+    let at-reply-to = at-added .before .before in
+    let at-if1 = at-reply-to .before .before in
+    let entry = at-if1 .before .before .before .before .before .before in
+    line-some _ _ _ _ _ _ _ _ _ _ _ (at-if1 .if1 .left) (at-reply-to .reply-to .ensures) (at-added .added .ensures .0) (at-added .added .ensures .1) (c .sum .ensures)
+    (at-count .count .ensures) (at-put-reply .put-reply .ensures .0) (at-put-reply .put-reply .ensures .1) (entry .pre .0)
 
 pub end-line-spec : {M : Type 1} → statement M
 end-line-spec =

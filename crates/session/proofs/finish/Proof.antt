@@ -11,7 +11,11 @@ last-line-requires : tie.Need-last-line-requires
 last-line-requires c κs = search needs
 
 put-closing-requires : tie.Need-put-closing-requires
-put-closing-requires c κs = let l = c .before .before .before .before .before .before .before .before .last-line .ensures in (omega (arith, l .modest .corrected, l .modest .words), l .modest .codes, omega (arith, l .room, l .text .kept, c .before .before .before .before .before .before .before .before .before .before .before .before .before .before .pre .1))
+put-closing-requires c κs =
+    let at-last-line = c .before .before .before .before .before .before .before .before in
+    let entry = at-last-line .before .before .before .before .before .before in
+    let l = at-last-line .last-line .ensures in
+    (omega (arith, l .bounds .corrected, l .bounds .words), l .bounds .codes, omega (arith, l .room, l .text .kept, entry .pre .1))
 
 same-length : tie.Need-same-length
 same-length c = search needs

@@ -19,7 +19,11 @@ same-length-2 : tie.Need-same-length-2
 same-length-2 c = search needs
 
 returns-2 : tie.Need-returns-2
-returns-2 c = last-some _ _ _ _ _ _ _ (c .before .before .before .before .before .before .before .if1 .left) (c .before .before .before .before .before .before .before .before .before .before .before .pre .0) (c .before .before .before .before .end-line .ensures)
+returns-2 c =
+    let at-end-line = c .before .before .before .before in
+    let at-if1 = at-end-line .before .before .before in
+    let entry = at-if1 .before .before .before .before in
+    last-some _ _ _ _ _ _ _ (at-if1 .if1 .left) (entry .pre .0) (at-end-line .end-line .ensures)
 
 pub last-line-spec : {M : Type 1} → statement M
 last-line-spec = tie.close (tie.spec returns end-line-requires same-length same-length-2 returns-2)

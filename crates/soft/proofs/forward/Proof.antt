@@ -65,7 +65,12 @@ loop-less : tie.Need-loop-less Inv-loop μ-loop
 loop-less c = search needs
 
 loop-again : tie.Need-loop-again Inv-loop μ-loop
-loop-again c = running-more (c .before .before .before .before .before .before .before .before .before .loop .inv) (omega arith) (omega arith) (c .before .before .before .before .before .branch-metrics .result) (c .before .before .before .before .before .branch-metrics .ensures) (c .before .before .advance .result) (c .before .before .advance .ensures)
+loop-again c =
+    let at-advance = c .before .before in
+    let at-branch-metrics = at-advance .before .before .before in
+    let at = at-branch-metrics .before .before .before .before in
+    running-more (at .loop .inv) (omega arith) (omega arith) (at-branch-metrics .branch-metrics .result) (at-branch-metrics .branch-metrics .ensures)
+    (at-advance .advance .result) (at-advance .advance .ensures)
 
 slice-aggregate-narrowed : tie.Need-slice-aggregate-narrowed Inv-loop μ-loop
 slice-aggregate-narrowed c = search needs

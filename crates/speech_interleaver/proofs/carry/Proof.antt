@@ -40,7 +40,10 @@ loop-less : tie.Need-loop-less Inv-loop μ-loop
 loop-less c = search needs
 
 loop-again : tie.Need-loop-again Inv-loop μ-loop
-loop-again c = pairs-more (c .before .before .before .before .before .before .before .before .before .loop .inv) (λ p b. refl) (c .before .before .before .before .before .before .carry-row .ensures) (c .before .before .carry-row2 .ensures)
+loop-again c =
+    let at-carry-row = c .before .before .before .before .before .before in
+    let at = at-carry-row .before .before .before in
+    pairs-more (at .loop .inv) (λ p b. refl) (at-carry-row .carry-row .ensures) (c .before .before .carry-row2 .ensures)
 
 same-length : tie.Need-same-length Inv-loop μ-loop
 same-length c = c .before .loop .inv .rows .size ∙ sym (c .before .before .before .before .before .pre .2)

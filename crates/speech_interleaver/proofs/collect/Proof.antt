@@ -40,7 +40,10 @@ loop-less : tie.Need-loop-less Inv-loop μ-loop
 loop-less c = search needs
 
 loop-again : tie.Need-loop-again Inv-loop μ-loop
-loop-again c = pairs-more (c .before .before .before .before .before .before .before .before .before .loop .inv) (λ p b. omega arith) (c .before .before .before .before .before .before .collect-row .ensures) (c .before .before .collect-row2 .ensures)
+loop-again c =
+    let at-collect-row = c .before .before .before .before .before .before in
+    let at = at-collect-row .before .before .before in
+    pairs-more (at .loop .inv) (λ p b. omega arith) (at-collect-row .collect-row .ensures) (c .before .before .collect-row2 .ensures)
 
 same-length : tie.Need-same-length Inv-loop μ-loop
 same-length c = c .before .loop .inv .rows .size ∙ sym (c .before .before .before .before .before .pre .2)

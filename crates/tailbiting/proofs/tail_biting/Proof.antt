@@ -1,6 +1,6 @@
 -- `tailbiting::tail_biting` meets its contract: the metric of the rows is the weight. Assumes nothing.
 use borrow.Author.Needs.{needs}
-use Rattle.tailbiting.proofs.Branches.{modest, found-weight}
+use Rattle.tailbiting.proofs.Branches.{small-rows, found-weight}
 use Rattle.tailbiting.proofs.tail_biting.Statement.{statement}
 use Rattle.tailbiting.proofs.tail_biting.Tie as tie
 
@@ -24,7 +24,7 @@ search-requires c κs =
     let begin = c .before .before .before .before .before .before .before .before .before in
     let filled = c .before .before .before .before .before .fill-rows in
     let numbered = c .before .before .before .step-numbers in
-    (numbered .ensures .0, modest (begin .args .received .now) (numbered .result) (filled .last .1 .0) (filled .kept .1 .0) (numbered .ensures .0) (begin .pre .0) (filled .ensures) (numbered .ensures .1), begin .pre .1)
+    (numbered .ensures .0, small-rows (begin .args .received .now) (numbered .result) (filled .last .1 .0) (filled .kept .1 .0) (numbered .ensures .0) (begin .pre .0) (filled .ensures) (numbered .ensures .1), begin .pre .1)
 
 same-length : tie.Need-same-length
 same-length c = search needs

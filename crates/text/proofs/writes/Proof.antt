@@ -42,7 +42,9 @@ loop-less : tie.Need-loop-less Inv-loop μ-loop
 loop-less c = search needs
 
 loop-again : tie.Need-loop-again Inv-loop μ-loop
-loop-again c = (refl, c .before .before .before .before .before .loop .inv .1, omega arith, below-more _ _ (c .before .before .before .before .before .loop .inv .3) (sym (c .if2 .left) ∙ c .before .before .bit-of .ensures))
+loop-again c =
+    let at = c .before .before .before .before .before in
+    (refl, at .loop .inv .1, omega arith, below-more _ _ (at .loop .inv .3) (sym (c .if2 .left) ∙ c .before .before .bit-of .ensures))
 
 returns-3 : tie.Need-returns-3 Inv-loop μ-loop
 returns-3 c = λ _. mapped-all bitOf 0 (c .before .before .before .before .before .args .text .now) _ (c .before .loop .inv .1) (λ k h. c .before .loop .inv .3 k (omega arith))

@@ -47,7 +47,10 @@ add-frame-5 : tie.Need-add-frame-5 Inv-loop μ-loop
 add-frame-5 c = search needs
 
 slice-write-frame-2 : tie.Need-slice-write-frame-2 Inv-loop μ-loop
-slice-write-frame-2 c = simp length-set (omega (arith, pairing-length (c .before .before .before .loop .inv) (c .before .before .before .before .pre .0) (c .before .before .before .before .pre .1) (c .before .before .before .before .pre .2)))
+slice-write-frame-2 c =
+    let at = c .before .before .before in
+    let entry = at .before in
+    simp length-set (omega (arith, pairing-length (at .loop .inv) (entry .pre .0) (entry .pre .1) (entry .pre .2)))
 
 add-i : tie.Need-add-i Inv-loop μ-loop
 add-i c = search needs
@@ -56,7 +59,10 @@ loop-less : tie.Need-loop-less Inv-loop μ-loop
 loop-less c = search needs
 
 loop-again : tie.Need-loop-again Inv-loop μ-loop
-loop-again c = pairing-more (c .before .before .before .loop .inv) (c .before .before .before .before .pre .0) (c .before .before .before .before .pre .1) (c .before .before .before .before .pre .2) (omega arith)
+loop-again c =
+    let at = c .before .before .before in
+    let entry = at .before in
+    pairing-more (at .loop .inv) (entry .pre .0) (entry .pre .1) (entry .pre .2) (omega arith)
 
 same-length : tie.Need-same-length Inv-loop μ-loop
 same-length c = pairing-length (c .before .loop .inv) (c .before .before .pre .0) (c .before .before .pre .1) (c .before .before .pre .2)

@@ -14,7 +14,11 @@ enum-known-ready : tie.Need-enum-known-ready
 enum-known-ready c = search needs
 
 returns : tie.Need-returns
-returns c = declined-end (c .before .before .before .before .before .before .args .format) (c .before .before .before .before .before .before .args .block .now) (c .before .before .before .before .before .before .args .dvcc) (c .before .before .before .before .before .before .args .mode) (c .before .before .before .before .before .before .args .information .now) (c .before .before .before .decode-arguments .ensures) _ (c .before .ready .given .1)
+returns c =
+    let at-decode-arguments = c .before .before .before in
+    let entry = at-decode-arguments .before .before .before in
+    declined-end (entry .args .format) (entry .args .block .now) (entry .args .dvcc) (entry .args .mode) (entry .args .information .now)
+    (at-decode-arguments .decode-arguments .ensures) _ (c .before .ready .given .1)
 
 enum-told : tie.Need-enum-told
 enum-told c = search needs
@@ -23,28 +27,71 @@ encoded-bits-requires : tie.Need-encoded-bits-requires
 encoded-bits-requires c κs = search needs
 
 array-borrow-prefix-word : tie.Need-array-borrow-prefix-word
-array-borrow-prefix-word c = half-within (c .before .before .before .before .before .before .args .format) (c .before .before .before .before .before .before .args .block .now) (c .before .before .before .before .before .before .args .dvcc) (c .before .before .before .before .before .before .args .mode) (c .before .before .before .before .before .before .args .information .now) (c .before .before .before .decode-arguments .ensures) (c .before .enum-told .given .1) _ (c .encoded-bits .ensures)
+array-borrow-prefix-word c =
+    let at-decode-arguments = c .before .before .before in
+    let entry = at-decode-arguments .before .before .before in
+    half-within (entry .args .format) (entry .args .block .now) (entry .args .dvcc) (entry .args .mode) (entry .args .information .now)
+    (at-decode-arguments .decode-arguments .ensures) (c .before .enum-told .given .1) _ (c .encoded-bits .ensures)
 
 slice-aggregate-nearest-word : tie.Need-slice-aggregate-nearest-word
-slice-aggregate-nearest-word c = part-length _ _ (half-within (c .before .before .before .before .before .before .before .args .format) (c .before .before .before .before .before .before .before .args .block .now) (c .before .before .before .before .before .before .before .args .dvcc) (c .before .before .before .before .before .before .before .args .mode) (c .before .before .before .before .before .before .before .args .information .now) (c .before .before .before .before .decode-arguments .ensures) (c .before .before .enum-told .given .1) _ (c .before .encoded-bits .ensures))
+slice-aggregate-nearest-word c =
+    let at-decode-arguments = c .before .before .before .before in
+    let entry = at-decode-arguments .before .before .before in
+    part-length _ _
+    (half-within (entry .args .format) (entry .args .block .now) (entry .args .dvcc) (entry .args .mode) (entry .args .information .now) (at-decode-arguments .decode-arguments .ensures) (c .before .before .enum-told .given .1) _ (c .before .encoded-bits .ensures))
 
 nearest-word-requires : tie.Need-nearest-word-requires
-nearest-word-requires c κs = asks-nearest (c .before .before .before .before .before .before .before .args .format) (c .before .before .before .before .before .before .before .args .block .now) (c .before .before .before .before .before .before .before .args .dvcc) (c .before .before .before .before .before .before .before .args .mode) (c .before .before .before .before .before .before .before .args .information .now) (c .before .before .before .before .decode-arguments .ensures) (c .before .before .enum-told .given .1) _ (c .before .encoded-bits .ensures)
+nearest-word-requires c κs =
+    let at-decode-arguments = c .before .before .before .before in
+    let entry = at-decode-arguments .before .before .before in
+    asks-nearest (entry .args .format) (entry .args .block .now) (entry .args .dvcc) (entry .args .mode) (entry .args .information .now)
+    (at-decode-arguments .decode-arguments .ensures) (c .before .before .enum-told .given .1) _ (c .before .encoded-bits .ensures)
 
 array-share-prefix-word : tie.Need-array-share-prefix-word
-array-share-prefix-word c = whole-length _ _ (half-within (c .before .before .before .before .before .before .before .before .before .args .format) (c .before .before .before .before .before .before .before .before .before .args .block .now) (c .before .before .before .before .before .before .before .before .before .args .dvcc) (c .before .before .before .before .before .before .before .before .before .args .mode) (c .before .before .before .before .before .before .before .before .before .args .information .now) (c .before .before .before .before .before .before .decode-arguments .ensures) (c .before .before .before .before .enum-told .given .1) _ (c .before .before .before .encoded-bits .ensures)) (c .before .nearest-word .last .1 .1 .0) (c .before .nearest-word .kept .1 .1 .0)
+array-share-prefix-word c =
+    let at-nearest-word = c .before in
+    let at-encoded-bits = at-nearest-word .before .before in
+    let at-enum-told = at-encoded-bits .before in
+    let at-decode-arguments = at-enum-told .before .before in
+    let entry = at-decode-arguments .before .before .before in
+    whole-length _ _
+    (half-within (entry .args .format) (entry .args .block .now) (entry .args .dvcc) (entry .args .mode) (entry .args .information .now) (at-decode-arguments .decode-arguments .ensures) (at-enum-told .enum-told .given .1) _ (at-encoded-bits .encoded-bits .ensures))
+    (at-nearest-word .nearest-word .last .1 .1 .0) (at-nearest-word .nearest-word .kept .1 .1 .0)
 
 slice-aggregate-finish : tie.Need-slice-aggregate-finish
-slice-aggregate-finish c = part-length _ _ (whole-length _ _ (half-within (c .before .before .before .before .before .before .before .before .before .before .args .format) (c .before .before .before .before .before .before .before .before .before .before .args .block .now) (c .before .before .before .before .before .before .before .before .before .before .args .dvcc) (c .before .before .before .before .before .before .before .before .before .before .args .mode) (c .before .before .before .before .before .before .before .before .before .before .args .information .now) (c .before .before .before .before .before .before .before .decode-arguments .ensures) (c .before .before .before .before .before .enum-told .given .1) _ (c .before .before .before .before .encoded-bits .ensures)) (c .before .before .nearest-word .last .1 .1 .0) (c .before .before .nearest-word .kept .1 .1 .0))
+slice-aggregate-finish c =
+    let at-nearest-word = c .before .before in
+    let at-encoded-bits = at-nearest-word .before .before in
+    let at-enum-told = at-encoded-bits .before in
+    let at-decode-arguments = at-enum-told .before .before in
+    let entry = at-decode-arguments .before .before .before in
+    part-length _ _
+    (whole-length _ _ (half-within (entry .args .format) (entry .args .block .now) (entry .args .dvcc) (entry .args .mode) (entry .args .information .now) (at-decode-arguments .decode-arguments .ensures) (at-enum-told .enum-told .given .1) _ (at-encoded-bits .encoded-bits .ensures)) (at-nearest-word .nearest-word .last .1 .1 .0) (at-nearest-word .nearest-word .kept .1 .1 .0))
 
 finish-requires : tie.Need-finish-requires
-finish-requires c κs = asks-finish (c .before .before .before .before .before .before .before .before .before .before .before .args .format) (c .before .before .before .before .before .before .before .before .before .before .before .args .block .now) (c .before .before .before .before .before .before .before .before .before .before .before .args .dvcc) (c .before .before .before .before .before .before .before .before .before .before .before .args .mode) (c .before .before .before .before .before .before .before .before .before .before .before .args .information .now) (c .before .before .before .before .before .before .before .before .decode-arguments .ensures) (c .before .before .before .before .before .before .enum-told .given .1) _ (c .before .before .before .before .before .encoded-bits .ensures) _ (c .before .before .before .nearest-word .kept .1 .1 .0) (c .before .before .before .nearest-word .ensures)
+finish-requires c κs =
+    let at-nearest-word = c .before .before .before in
+    let at-encoded-bits = at-nearest-word .before .before in
+    let at-enum-told = at-encoded-bits .before in
+    let at-decode-arguments = at-enum-told .before .before in
+    let entry = at-decode-arguments .before .before .before in
+    asks-finish (entry .args .format) (entry .args .block .now) (entry .args .dvcc) (entry .args .mode) (entry .args .information .now)
+    (at-decode-arguments .decode-arguments .ensures) (at-enum-told .enum-told .given .1) _ (at-encoded-bits .encoded-bits .ensures) _
+    (at-nearest-word .nearest-word .kept .1 .1 .0) (at-nearest-word .nearest-word .ensures)
 
 same-length : tie.Need-same-length
 same-length c = search needs
 
 returns-2 : tie.Need-returns-2
-returns-2 c = settled-end (c .before .before .before .before .before .before .before .before .before .before .before .before .before .before .args .format) (c .before .before .before .before .before .before .before .before .before .before .before .before .before .before .args .block .now) (c .before .before .before .before .before .before .before .before .before .before .before .before .before .before .args .dvcc) (c .before .before .before .before .before .before .before .before .before .before .before .before .before .before .args .mode) (c .before .before .before .before .before .before .before .before .before .before .before .before .before .before .args .information .now) (c .before .before .before .before .before .before .before .before .before .before .before .decode-arguments .ensures) (c .before .before .before .before .before .before .before .before .before .enum-told .given .1) _ (c .before .before .before .before .before .before .before .before .encoded-bits .ensures) _ (c .before .before .before .before .before .before .nearest-word .kept .1 .1 .0) (c .before .before .before .before .before .before .nearest-word .ensures) (c .before .before .finish .ensures)
+returns-2 c =
+    let at-nearest-word = c .before .before .before .before .before .before in
+    let at-encoded-bits = at-nearest-word .before .before in
+    let at-enum-told = at-encoded-bits .before in
+    let at-decode-arguments = at-enum-told .before .before in
+    let entry = at-decode-arguments .before .before .before in
+    settled-end (entry .args .format) (entry .args .block .now) (entry .args .dvcc) (entry .args .mode) (entry .args .information .now)
+    (at-decode-arguments .decode-arguments .ensures) (at-enum-told .enum-told .given .1) _ (at-encoded-bits .encoded-bits .ensures) _
+    (at-nearest-word .nearest-word .kept .1 .1 .0) (at-nearest-word .nearest-word .ensures) (c .before .before .finish .ensures)
 
 pub decode-spec : {M : Type 1} → statement M
 decode-spec =

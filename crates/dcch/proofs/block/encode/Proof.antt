@@ -24,28 +24,71 @@ encoded-bits-requires : tie.Need-encoded-bits-requires
 encoded-bits-requires c κs = search needs
 
 array-borrow-prefix-cells : tie.Need-array-borrow-prefix-cells
-array-borrow-prefix-cells c = within (c .before .before .before .before .before .before .args .format) (c .before .before .before .before .before .before .args .information .now) (c .before .before .before .before .before .before .args .dvcc) (c .before .before .before .before .before .before .args .mode) (c .before .before .before .before .before .before .args .block .now) (c .before .before .before .encode-arguments .ensures) (c .before .enum-told .given .1) _ (c .encoded-bits .ensures)
+array-borrow-prefix-cells c =
+    let at-encode-arguments = c .before .before .before in
+    let entry = at-encode-arguments .before .before .before in
+    within (entry .args .format) (entry .args .information .now) (entry .args .dvcc) (entry .args .mode) (entry .args .block .now)
+    (at-encode-arguments .encode-arguments .ensures) (c .before .enum-told .given .1) _ (c .encoded-bits .ensures)
 
 slice-aggregate-encode-cells : tie.Need-slice-aggregate-encode-cells
-slice-aggregate-encode-cells c = part-length _ _ (within (c .before .before .before .before .before .before .before .args .format) (c .before .before .before .before .before .before .before .args .information .now) (c .before .before .before .before .before .before .before .args .dvcc) (c .before .before .before .before .before .before .before .args .mode) (c .before .before .before .before .before .before .before .args .block .now) (c .before .before .before .before .encode-arguments .ensures) (c .before .before .enum-told .given .1) _ (c .before .encoded-bits .ensures))
+slice-aggregate-encode-cells c =
+    let at-encode-arguments = c .before .before .before .before in
+    let entry = at-encode-arguments .before .before .before in
+    part-length _ _
+    (within (entry .args .format) (entry .args .information .now) (entry .args .dvcc) (entry .args .mode) (entry .args .block .now) (at-encode-arguments .encode-arguments .ensures) (c .before .before .enum-told .given .1) _ (c .before .encoded-bits .ensures))
 
 encode-cells-requires : tie.Need-encode-cells-requires
-encode-cells-requires c κs = asks-cells (c .before .before .before .before .before .before .before .args .format) (c .before .before .before .before .before .before .before .args .information .now) (c .before .before .before .before .before .before .before .args .dvcc) (c .before .before .before .before .before .before .before .args .mode) (c .before .before .before .before .before .before .before .args .block .now) (c .before .before .before .before .encode-arguments .ensures) (c .before .before .enum-told .given .1) _ (c .before .encoded-bits .ensures)
+encode-cells-requires c κs =
+    let at-encode-arguments = c .before .before .before .before in
+    let entry = at-encode-arguments .before .before .before in
+    asks-cells (entry .args .format) (entry .args .information .now) (entry .args .dvcc) (entry .args .mode) (entry .args .block .now)
+    (at-encode-arguments .encode-arguments .ensures) (c .before .before .enum-told .given .1) _ (c .before .encoded-bits .ensures)
 
 array-share-prefix-cells : tie.Need-array-share-prefix-cells
-array-share-prefix-cells c = whole-length _ _ (within (c .before .before .before .before .before .before .before .before .before .args .format) (c .before .before .before .before .before .before .before .before .before .args .information .now) (c .before .before .before .before .before .before .before .before .before .args .dvcc) (c .before .before .before .before .before .before .before .before .before .args .mode) (c .before .before .before .before .before .before .before .before .before .args .block .now) (c .before .before .before .before .before .before .encode-arguments .ensures) (c .before .before .before .before .enum-told .given .1) _ (c .before .before .before .encoded-bits .ensures)) (c .before .encode-cells .last .1 .1 .1 .0) (c .before .encode-cells .kept .1 .1 .1 .0)
+array-share-prefix-cells c =
+    let at-encode-cells = c .before in
+    let at-encoded-bits = at-encode-cells .before .before in
+    let at-enum-told = at-encoded-bits .before in
+    let at-encode-arguments = at-enum-told .before .before in
+    let entry = at-encode-arguments .before .before .before in
+    whole-length _ _
+    (within (entry .args .format) (entry .args .information .now) (entry .args .dvcc) (entry .args .mode) (entry .args .block .now) (at-encode-arguments .encode-arguments .ensures) (at-enum-told .enum-told .given .1) _ (at-encoded-bits .encoded-bits .ensures))
+    (at-encode-cells .encode-cells .last .1 .1 .1 .0) (at-encode-cells .encode-cells .kept .1 .1 .1 .0)
 
 slice-aggregate-interleave : tie.Need-slice-aggregate-interleave
-slice-aggregate-interleave c = part-length _ _ (whole-length _ _ (within (c .before .before .before .before .before .before .before .before .before .before .args .format) (c .before .before .before .before .before .before .before .before .before .before .args .information .now) (c .before .before .before .before .before .before .before .before .before .before .args .dvcc) (c .before .before .before .before .before .before .before .before .before .before .args .mode) (c .before .before .before .before .before .before .before .before .before .before .args .block .now) (c .before .before .before .before .before .before .before .encode-arguments .ensures) (c .before .before .before .before .before .enum-told .given .1) _ (c .before .before .before .before .encoded-bits .ensures)) (c .before .before .encode-cells .last .1 .1 .1 .0) (c .before .before .encode-cells .kept .1 .1 .1 .0))
+slice-aggregate-interleave c =
+    let at-encode-cells = c .before .before in
+    let at-encoded-bits = at-encode-cells .before .before in
+    let at-enum-told = at-encoded-bits .before in
+    let at-encode-arguments = at-enum-told .before .before in
+    let entry = at-encode-arguments .before .before .before in
+    part-length _ _
+    (whole-length _ _ (within (entry .args .format) (entry .args .information .now) (entry .args .dvcc) (entry .args .mode) (entry .args .block .now) (at-encode-arguments .encode-arguments .ensures) (at-enum-told .enum-told .given .1) _ (at-encoded-bits .encoded-bits .ensures)) (at-encode-cells .encode-cells .last .1 .1 .1 .0) (at-encode-cells .encode-cells .kept .1 .1 .1 .0))
 
 interleave-requires : tie.Need-interleave-requires
-interleave-requires c κs = asks-interleave (c .before .before .before .before .before .before .before .before .before .before .before .args .format) (c .before .before .before .before .before .before .before .before .before .before .before .args .information .now) (c .before .before .before .before .before .before .before .before .before .before .before .args .dvcc) (c .before .before .before .before .before .before .before .before .before .before .before .args .mode) (c .before .before .before .before .before .before .before .before .before .before .before .args .block .now) (c .before .before .before .before .before .before .before .before .encode-arguments .ensures) (c .before .before .before .before .before .before .enum-told .given .1) _ (c .before .before .before .before .before .encoded-bits .ensures) (c .before .before .before .encode-cells .last .1 .1 .1 .0) (c .before .before .before .encode-cells .kept .1 .1 .1 .0)
+interleave-requires c κs =
+    let at-encode-cells = c .before .before .before in
+    let at-encoded-bits = at-encode-cells .before .before in
+    let at-enum-told = at-encoded-bits .before in
+    let at-encode-arguments = at-enum-told .before .before in
+    let entry = at-encode-arguments .before .before .before in
+    asks-interleave (entry .args .format) (entry .args .information .now) (entry .args .dvcc) (entry .args .mode) (entry .args .block .now)
+    (at-encode-arguments .encode-arguments .ensures) (at-enum-told .enum-told .given .1) _ (at-encoded-bits .encoded-bits .ensures)
+    (at-encode-cells .encode-cells .last .1 .1 .1 .0) (at-encode-cells .encode-cells .kept .1 .1 .1 .0)
 
 same-length : tie.Need-same-length
 same-length c = search needs
 
 returns-2 : tie.Need-returns-2
-returns-2 c = done-end (c .before .before .before .before .before .before .before .before .before .before .before .before .before .before .args .format) (c .before .before .before .before .before .before .before .before .before .before .before .before .before .before .args .information .now) (c .before .before .before .before .before .before .before .before .before .before .before .before .before .before .args .dvcc) (c .before .before .before .before .before .before .before .before .before .before .before .before .before .before .args .mode) (c .before .before .before .before .before .before .before .before .before .before .before .before .before .before .args .block .now) (c .before .before .before .before .before .before .before .before .before .before .before .encode-arguments .ensures) (c .before .before .before .before .before .before .before .before .before .enum-told .given .1) _ (c .before .before .before .before .before .before .before .before .encoded-bits .ensures) _ (c .before .before .before .before .before .before .encode-cells .kept .1 .1 .1 .0) (c .before .before .before .before .before .before .encode-cells .ensures) (c .before .before .interleave .ensures)
+returns-2 c =
+    let at-encode-cells = c .before .before .before .before .before .before in
+    let at-encoded-bits = at-encode-cells .before .before in
+    let at-enum-told = at-encoded-bits .before in
+    let at-encode-arguments = at-enum-told .before .before in
+    let entry = at-encode-arguments .before .before .before in
+    done-end (entry .args .format) (entry .args .information .now) (entry .args .dvcc) (entry .args .mode) (entry .args .block .now)
+    (at-encode-arguments .encode-arguments .ensures) (at-enum-told .enum-told .given .1) _ (at-encoded-bits .encoded-bits .ensures) _
+    (at-encode-cells .encode-cells .kept .1 .1 .1 .0) (at-encode-cells .encode-cells .ensures) (c .before .before .interleave .ensures)
 
 pub encode-spec : {M : Type 1} → statement M
 encode-spec =

@@ -14,7 +14,9 @@ slice-aggregate-convolutional-encode : tie.Need-slice-aggregate-convolutional-en
 slice-aggregate-convolutional-encode c = part-length _ _ (omega arith)
 
 convolutional-encode-requires : tie.Need-convolutional-encode-requires
-convolutional-encode-requires c κs = asks-encode (c .before .before .before .args .word .now) (c .before .before .before .args .values .now) (c .before .before .before .pre .0) (c .before .before .before .pre .1) (c .before .before .before .pre .2)
+convolutional-encode-requires c κs =
+    let entry = c .before .before .before in
+    asks-encode (entry .args .word .now) (entry .args .values .now) (entry .pre .0) (entry .pre .1) (entry .pre .2)
 
 array-share-prefix-coded : tie.Need-array-share-prefix-coded
 array-share-prefix-coded c = whole-length _ _ (omega arith) (c .before .convolutional-encode .last .1 .1 .0) (c .before .convolutional-encode .kept .1 .1 .0)
@@ -23,10 +25,18 @@ slice-aggregate-sign-count : tie.Need-slice-aggregate-sign-count
 slice-aggregate-sign-count c = part-length _ _ (whole-length _ _ (omega arith) (c .before .before .convolutional-encode .last .1 .1 .0) (c .before .before .convolutional-encode .kept .1 .1 .0))
 
 sign-count-requires : tie.Need-sign-count-requires
-sign-count-requires c κs = asks-count (c .before .before .before .before .before .before .args .word .now) (c .before .before .before .before .before .before .args .values .now) (c .before .before .before .before .before .before .pre .0) (c .before .before .before .before .before .before .pre .1) (c .before .before .before .before .before .before .pre .2) (c .before .before .convolutional-encode .last .1 .1 .0) (c .before .before .convolutional-encode .kept .1 .1 .0)
+sign-count-requires c κs =
+    let at-convolutional-encode = c .before .before in
+    let entry = at-convolutional-encode .before .before .before .before in
+    asks-count (entry .args .word .now) (entry .args .values .now) (entry .pre .0) (entry .pre .1) (entry .pre .2)
+    (at-convolutional-encode .convolutional-encode .last .1 .1 .0) (at-convolutional-encode .convolutional-encode .kept .1 .1 .0)
 
 returns : tie.Need-returns
-returns c = signs-counted (c .before .before .before .before .before .before .before .args .word .now) (c .before .before .before .before .before .before .before .args .values .now) (c .before .before .before .before .before .before .before .pre .0) (c .before .before .before .before .before .before .before .pre .1) (c .before .before .before .before .before .before .before .pre .2) _ (c .before .before .before .convolutional-encode .kept .1 .1 .0) (c .before .before .before .convolutional-encode .ensures) (c .sign-count .ensures)
+returns c =
+    let at-convolutional-encode = c .before .before .before in
+    let entry = at-convolutional-encode .before .before .before .before in
+    signs-counted (entry .args .word .now) (entry .args .values .now) (entry .pre .0) (entry .pre .1) (entry .pre .2) _
+    (at-convolutional-encode .convolutional-encode .kept .1 .1 .0) (at-convolutional-encode .convolutional-encode .ensures) (c .sign-count .ensures)
 
 pub count-signs-spec : {M : Type 1} → statement M
 count-signs-spec =

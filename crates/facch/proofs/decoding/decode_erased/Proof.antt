@@ -12,7 +12,10 @@ enum-known-ready : tie.Need-enum-known-ready
 enum-known-ready c = search needs
 
 returns : tie.Need-returns
-returns c = declined-end (c .before .before .before .before .before .args .coded .now) (c .before .before .before .before .before .args .dvcc) (c .before .before .before .exact-erasable .ensures) _ (c .before .ready .given .1)
+returns c =
+    let at-exact-erasable = c .before .before .before in
+    let entry = at-exact-erasable .before .before in
+    declined-end (entry .args .coded .now) (entry .args .dvcc) (at-exact-erasable .exact-erasable .ensures) _ (c .before .ready .given .1)
 
 enum-told : tie.Need-enum-told
 enum-told c = search needs
@@ -21,7 +24,10 @@ answer-requires : tie.Need-answer-requires
 answer-requires c κs = passed-erasable 260 (c .before .before .before .before .args .coded .now) (c .before .before .exact-erasable .ensures) (c .enum-told .given .1)
 
 returns-2 : tie.Need-returns-2
-returns-2 c = answered-end (c .before .before .before .before .before .args .coded .now) (c .before .before .before .before .before .args .dvcc) (c .before .before .before .exact-erasable .ensures) (c .before .enum-told .given .1) (c .answer .ensures)
+returns-2 c =
+    let at-exact-erasable = c .before .before .before in
+    let entry = at-exact-erasable .before .before in
+    answered-end (entry .args .coded .now) (entry .args .dvcc) (at-exact-erasable .exact-erasable .ensures) (c .before .enum-told .given .1) (c .answer .ensures)
 
 pub decode-erased-spec : {M : Type 1} → statement M
 decode-erased-spec =

@@ -17,7 +17,10 @@ shared-slice-read-continuation : tie.Need-shared-slice-read-continuation
 shared-slice-read-continuation c = search needs
 
 returns-2 : tie.Need-returns-2
-returns-2 c = taken-end (c .before .before .before .before .before .args .word .now) _ _ _ (c .before .before .before .crc-valid .ensures) (c .before .before .if1 .left) (c .before .before .before .before .before .pre .1) (c .before .message .ensures)
+returns-2 c =
+    let at-crc-valid = c .before .before .before in
+    let entry = at-crc-valid .before .before in
+    taken-end (entry .args .word .now) _ _ _ (at-crc-valid .crc-valid .ensures) (c .before .before .if1 .left) (entry .pre .1) (c .before .message .ensures)
 
 pub finish-spec : {M : Type 1} → statement M
 finish-spec =

@@ -11,16 +11,26 @@ nearest-word-requires : tie.Need-nearest-word-requires
 nearest-word-requires c κs = search needs
 
 returns : tie.Need-returns
-returns c = tied-end (c .before .before .before .before .before .args .coded .now) (c .before .before .before .before .before .args .dvcc) (c .before .before .before .before .before .args .observed) (c .before .before .before .before .before .pre .1 .0) (c .before .before .before .before .before .pre .1 .1) (c .before .before .nearest-word .ensures) (c .if1 .taken)
+returns c =
+    let entry = c .before .before .before .before .before in
+    tied-end (entry .args .coded .now) (entry .args .dvcc) (entry .args .observed) (entry .pre .1 .0) (entry .pre .1 .1) (c .before .before .nearest-word .ensures)
+    (c .if1 .taken)
 
 slice-aggregate-finish : tie.Need-slice-aggregate-finish
 slice-aggregate-finish c = search needs
 
 finish-requires : tie.Need-finish-requires
-finish-requires c κs = asks-finish (c .before .before .before .before .before .before .args .coded .now) (c .before .before .before .before .before .before .args .dvcc) (c .before .before .before .before .before .before .args .observed) (c .before .before .before .before .before .before .pre .1 .0) (c .before .before .before .before .before .before .pre .1 .1) (c .before .before .before .nearest-word .ensures)
+finish-requires c κs =
+    let at-nearest-word = c .before .before .before in
+    let entry = at-nearest-word .before .before .before in
+    asks-finish (entry .args .coded .now) (entry .args .dvcc) (entry .args .observed) (entry .pre .1 .0) (entry .pre .1 .1) (at-nearest-word .nearest-word .ensures)
 
 returns-2 : tie.Need-returns-2
-returns-2 c = alone-end (c .before .before .before .before .before .before .before .args .coded .now) (c .before .before .before .before .before .before .before .args .dvcc) (c .before .before .before .before .before .before .before .args .observed) (c .before .before .before .before .before .before .before .pre .1 .0) (c .before .before .before .before .before .before .before .pre .1 .1) (c .before .before .before .before .nearest-word .ensures) (c .before .before .if1 .left) (c .finish .ensures)
+returns-2 c =
+    let at-nearest-word = c .before .before .before .before in
+    let entry = at-nearest-word .before .before .before in
+    alone-end (entry .args .coded .now) (entry .args .dvcc) (entry .args .observed) (entry .pre .1 .0) (entry .pre .1 .1) (at-nearest-word .nearest-word .ensures)
+    (c .before .before .if1 .left) (c .finish .ensures)
 
 pub settle-spec : {M : Type 1} → statement M
 settle-spec =

@@ -17,7 +17,9 @@ copy-requires : tie.Need-copy-requires
 copy-requires c κs = search needs
 
 slice-aggregate-copy : tie.Need-slice-aggregate-copy
-slice-aggregate-copy c = sixty (c .before .before .before .before .before .before .before .before .args .inputs .now) (c .before .before .before .before .before .before .before .before .args .word .now) (c .before .before .before .before .before .before .before .before .pre .0) (c .before .before .before .before .before .before .before .before .pre .1)
+slice-aggregate-copy c =
+    let entry = c .before .before .before .before .before .before .before .before in
+    sixty (entry .args .inputs .now) (entry .args .word .now) (entry .pre .0) (entry .pre .1)
 
 sub-copy-2 : tie.Need-sub-copy-2
 sub-copy-2 c = search needs
@@ -29,13 +31,19 @@ part-copy-end-2 : tie.Need-part-copy-end-2
 part-copy-end-2 c = search needs
 
 copy-requires-2 : tie.Need-copy-requires-2
-copy-requires-2 c κs = asks-rest (c .before .before .before .before .before .before .before .before .before .args .inputs .now) (c .before .before .before .before .before .before .before .before .before .args .word .now) (c .before .before .before .before .before .before .before .before .before .pre .0) (c .before .before .before .before .before .before .before .before .before .pre .1) (c .before .before .before .before .copy .ensures .1)
+copy-requires-2 c κs =
+    let at-copy = c .before .before .before .before in
+    let entry = at-copy .before .before .before .before .before in
+    asks-rest (entry .args .inputs .now) (entry .args .word .now) (entry .pre .0) (entry .pre .1) (at-copy .copy .ensures .1)
 
 same-length : tie.Need-same-length
 same-length c = search needs
 
 returns : tie.Need-returns
-returns c = rotated (c .before .before .before .before .before .before .before .before .before .before .before .before .args .inputs .now) (c .before .before .before .before .before .before .before .before .before .before .before .before .args .word .now) (c .before .before .before .before .before .before .before .before .before .before .before .before .pre .0) (c .before .before .before .before .before .before .before .before .before .before .before .before .pre .1) (c .before .before .before .before .before .before .before .copy .ensures .1) (c .before .before .copy2 .ensures .1)
+returns c =
+    let at-copy = c .before .before .before .before .before .before .before in
+    let entry = at-copy .before .before .before .before .before in
+    rotated (entry .args .inputs .now) (entry .args .word .now) (entry .pre .0) (entry .pre .1) (at-copy .copy .ensures .1) (c .before .before .copy2 .ensures .1)
 
 pub rotate-spec : {M : Type 1} → statement M
 rotate-spec =

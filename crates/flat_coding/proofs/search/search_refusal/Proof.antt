@@ -21,7 +21,11 @@ first-refusal-requires-2 : tie.Need-first-refusal-requires-2
 first-refusal-requires-2 c κs = search needs
 
 returns : tie.Need-returns
-returns c = c .first-refusal2 .ensures ∙ ap₂ firstRefusal (c .before .before .before .before .pairs .ensures) (c .before .first-refusal .ensures ∙ ap₂ firstRefusal (c .before .before .before .exact .ensures) (c .before .before .only-bits .ensures))
+returns c =
+    let at-exact = c .before .before .before in
+    let at-pairs = at-exact .before in
+    c .first-refusal2 .ensures ∙ ap₂ firstRefusal (at-pairs .pairs .ensures)
+    (c .before .first-refusal .ensures ∙ ap₂ firstRefusal (at-exact .exact .ensures) (c .before .before .only-bits .ensures))
 
 pub search-refusal-spec : {M : Type 1} → statement M
 search-refusal-spec =

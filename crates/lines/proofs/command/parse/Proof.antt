@@ -23,13 +23,22 @@ sacch-requires : tie.Need-sacch-requires
 sacch-requires c κs = sacch-line _ (told (c .before .is-sacch .ensures) (c .if3 .taken))
 
 returns-3 : tie.Need-returns-3
-returns-3 c = c .sacch .ensures ∙ parsed-sacch _ (search needs) (told (c .before .before .before .before .is-blank .ensures) (c .before .before .before .if2 .left)) (told (c .before .before .is-sacch .ensures) (c .before .if3 .taken))
+returns-3 c =
+    let at-if2 = c .before .before .before in
+    let at-is-blank = at-if2 .before in
+    c .sacch .ensures ∙ parsed-sacch _ (search needs) (told (at-is-blank .is-blank .ensures) (at-if2 .if2 .left))
+    (told (c .before .before .is-sacch .ensures) (c .before .if3 .taken))
 
 is-discontinuity-requires : tie.Need-is-discontinuity-requires
 is-discontinuity-requires c κs = search needs
 
 returns-4 : tie.Need-returns-4
-returns-4 c = parsed-discontinuity _ (search needs) (told (c .before .before .before .before .before .is-blank .ensures) (c .before .before .before .before .if2 .left)) (told (c .before .before .before .is-sacch .ensures) (c .before .before .if3 .left)) (told (c .before .is-discontinuity .ensures) (c .if4 .taken))
+returns-4 c =
+    let at-is-sacch = c .before .before .before in
+    let at-if2 = at-is-sacch .before in
+    let at-is-blank = at-if2 .before in
+    parsed-discontinuity _ (search needs) (told (at-is-blank .is-blank .ensures) (at-if2 .if2 .left))
+    (told (at-is-sacch .is-sacch .ensures) (c .before .before .if3 .left)) (told (c .before .is-discontinuity .ensures) (c .if4 .taken))
 
 is-facch-requires : tie.Need-is-facch-requires
 is-facch-requires c κs = search needs
@@ -38,10 +47,26 @@ facch-requires : tie.Need-facch-requires
 facch-requires c κs = facch-line _ (told (c .before .is-facch .ensures) (c .if5 .taken))
 
 returns-5 : tie.Need-returns-5
-returns-5 c = c .facch .ensures ∙ parsed-facch _ (search needs) (told (c .before .before .before .before .before .before .before .before .is-blank .ensures) (c .before .before .before .before .before .before .before .if2 .left)) (told (c .before .before .before .before .before .before .is-sacch .ensures) (c .before .before .before .before .before .if3 .left)) (told (c .before .before .before .before .is-discontinuity .ensures) (c .before .before .before .if4 .left)) (told (c .before .before .is-facch .ensures) (c .before .if5 .taken))
+returns-5 c =
+    let at-if4 = c .before .before .before in
+    let at-is-discontinuity = at-if4 .before in
+    let at-if3 = at-is-discontinuity .before in
+    let at-is-sacch = at-if3 .before in
+    let at-if2 = at-is-sacch .before in
+    let at-is-blank = at-if2 .before in
+    c .facch .ensures ∙ parsed-facch _ (search needs) (told (at-is-blank .is-blank .ensures) (at-if2 .if2 .left))
+    (told (at-is-sacch .is-sacch .ensures) (at-if3 .if3 .left)) (told (at-is-discontinuity .is-discontinuity .ensures) (at-if4 .if4 .left))
+    (told (c .before .before .is-facch .ensures) (c .before .if5 .taken))
 
 returns-6 : tie.Need-returns-6
-returns-6 c = parsed-unknown _ (search needs) (told (c .before .before .before .before .before .before .before .is-blank .ensures) (c .before .before .before .before .before .before .if2 .left)) (told (c .before .before .before .before .before .is-sacch .ensures) (c .before .before .before .before .if3 .left)) (told (c .before .before .before .is-discontinuity .ensures) (c .before .before .if4 .left)) (told (c .before .is-facch .ensures) (c .if5 .left))
+returns-6 c =
+    let at-is-discontinuity = c .before .before .before in
+    let at-if3 = at-is-discontinuity .before in
+    let at-is-sacch = at-if3 .before in
+    let at-if2 = at-is-sacch .before in
+    let at-is-blank = at-if2 .before in
+    parsed-unknown _ (search needs) (told (at-is-blank .is-blank .ensures) (at-if2 .if2 .left)) (told (at-is-sacch .is-sacch .ensures) (at-if3 .if3 .left))
+    (told (at-is-discontinuity .is-discontinuity .ensures) (c .before .before .if4 .left)) (told (c .before .is-facch .ensures) (c .if5 .left))
 
 pub parse-spec : {M : Type 1} → statement M
 parse-spec =

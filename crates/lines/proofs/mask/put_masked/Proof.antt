@@ -33,13 +33,21 @@ add-i : tie.Need-add-i Inv-loop μ-loop
 add-i c = search needs
 
 put-digit-requires : tie.Need-put-digit-requires Inv-loop μ-loop
-put-digit-requires c κs = omega (arith, c .before .before .before .before .before .before .loop .inv .1, c .before .before .before .before .before .before .loop .inv .2 .place, c .before .before .before .before .before .before .before .before .before .before .pre .1)
+put-digit-requires c κs =
+    let at = c .before .before .before .before .before .before in
+    let entry = at .before .before .before .before in
+    omega (arith, at .loop .inv .1, at .loop .inv .2 .place, entry .pre .1)
 
 loop-less : tie.Need-loop-less Inv-loop μ-loop
 loop-less c = search needs
 
 loop-again : tie.Need-loop-again Inv-loop μ-loop
-loop-again c = (c .before .before .before .before .before .before .before .before .before .loop .inv .0, c .before .before .put-digit .ensures .0 .kept ∙ c .before .before .before .before .before .before .before .before .before .loop .inv .1, reading-more (c .before .before .before .before .before .before .before .before .before .loop .inv .0) (c .before .before .before .before .before .before .before .before .before .loop .inv .2) (omega arith) (c .before .before .before .before .before .before .digit .ensures .0) (c .before .before .before .before .digit2 .ensures .0) (c .before .before .put-digit .ensures .0) (c .before .before .put-digit .ensures .1))
+loop-again c =
+    let at-put-digit = c .before .before in
+    let at-digit2 = at-put-digit .before .before in
+    let at-digit = at-digit2 .before .before in
+    let at = at-digit .before .before .before in
+    (at .loop .inv .0, at-put-digit .put-digit .ensures .0 .kept ∙ at .loop .inv .1, reading-more (at .loop .inv .0) (at .loop .inv .2) (omega arith) (at-digit .digit .ensures .0) (at-digit2 .digit2 .ensures .0) (at-put-digit .put-digit .ensures .0) (at-put-digit .put-digit .ensures .1))
 
 same-length : tie.Need-same-length Inv-loop μ-loop
 same-length c = search needs

@@ -25,7 +25,12 @@ same-length : tie.Need-same-length
 same-length c = search needs
 
 returns : tie.Need-returns
-returns c = (code-put _ _ (c .before .before .before .before .before .before .before .before .before .before .before .before .before .before .before .before .before .before .put .ensures) (c .before .before .before .before .before .before .before .before .before .before .before .before .before .before .put-hexadecimal .ensures .0) (c .before .before .before .before .before .before .before .before .before .before .put2 .ensures) (c .before .before .before .before .before .before .put-decimal .ensures .0) (c .before .before .put3 .ensures), search needs)
+returns c =
+    let at-put-decimal = c .before .before .before .before .before .before in
+    let at-put2 = at-put-decimal .before .before .before .before in
+    let at-put-hexadecimal = at-put2 .before .before .before .before in
+    let at-put = at-put-hexadecimal .before .before .before .before in
+    (code-put _ _ (at-put .put .ensures) (at-put-hexadecimal .put-hexadecimal .ensures .0) (at-put2 .put2 .ensures) (at-put-decimal .put-decimal .ensures .0) (c .before .before .put3 .ensures), search needs)
 
 pub put-code-spec : {M : Type 1} → statement M
 put-code-spec =

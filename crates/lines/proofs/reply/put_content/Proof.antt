@@ -22,7 +22,12 @@ same-length : tie.Need-same-length
 same-length c = search needs
 
 returns : tie.Need-returns
-returns c = (content-put _ (c .before .before .before .before .before .before .before .before .before .before .before .before .before .before .args .continuation) _ (c .before .before .before .before .before .before .before .before .before .before .before .before .byte-of .ensures) (c .before .before .before .before .before .before .before .before .before .before .put .ensures) (c .before .before .before .before .before .before .put-hexadecimal .ensures .0) (c .before .before .put-hexadecimal2 .ensures .0), search needs)
+returns c =
+    let at-put-hexadecimal = c .before .before .before .before .before .before in
+    let at-put = at-put-hexadecimal .before .before .before .before in
+    let at-byte-of = at-put .before .before in
+    let entry = at-byte-of .before .before in
+    (content-put _ (entry .args .continuation) _ (at-byte-of .byte-of .ensures) (at-put .put .ensures) (at-put-hexadecimal .put-hexadecimal .ensures .0) (c .before .before .put-hexadecimal2 .ensures .0), search needs)
 
 pub put-content-spec : {M : Type 1} → statement M
 put-content-spec =

@@ -19,7 +19,10 @@ same-length : tie.Need-same-length
 same-length c = search needs
 
 returns : tie.Need-returns
-returns c = (put-then (c .before .before .before .before .before .before .before .before .before .before .put-hexadecimal .ensures .0) (put-then (c .before .before .before .before .before .before .put-hexadecimal2 .ensures .0) (c .before .before .put .ensures)), search needs)
+returns c =
+    let at-put-hexadecimal2 = c .before .before .before .before .before .before in
+    let at-put-hexadecimal = at-put-hexadecimal2 .before .before .before .before in
+    (put-then (at-put-hexadecimal .put-hexadecimal .ensures .0) (put-then (at-put-hexadecimal2 .put-hexadecimal2 .ensures .0) (c .before .before .put .ensures)), search needs)
 
 pub put-numbers-spec : {M : Type 1} → statement M
 put-numbers-spec =

@@ -25,7 +25,11 @@ same-length : tie.Need-same-length
 same-length c = search needs
 
 returns : tie.Need-returns
-returns c = (refusal-put _ (c .before .before .before .before .before .before .before .before .before .before .before .before .number .ensures) (c .before .before .before .before .before .before .before .before .before .before .put .ensures) (c .before .before .before .before .before .before .put-hexadecimal .ensures .0) (c .before .before .put2 .ensures), search needs)
+returns c =
+    let at-put-hexadecimal = c .before .before .before .before .before .before in
+    let at-put = at-put-hexadecimal .before .before .before .before in
+    let at-number = at-put .before .before in
+    (refusal-put _ (at-number .number .ensures) (at-put .put .ensures) (at-put-hexadecimal .put-hexadecimal .ensures .0) (c .before .before .put2 .ensures), search needs)
 
 pub put-refusal-spec : {M : Type 1} → statement M
 put-refusal-spec =

@@ -25,7 +25,12 @@ same-length : tie.Need-same-length
 same-length c = search needs
 
 returns : tie.Need-returns
-returns c = (total-put _ _ (c .before .before .before .before .before .before .before .before .before .before .before .before .before .before .before .before .before .before .put-two .ensures .0) (c .before .before .before .before .before .before .before .before .before .before .before .before .before .before .put-decimal .ensures .0) (c .before .before .before .before .before .before .before .before .before .before .put .ensures) (c .before .before .before .before .before .before .put-decimal2 .ensures .0) (c .before .before .put2 .ensures), search needs)
+returns c =
+    let at-put-decimal2 = c .before .before .before .before .before .before in
+    let at-put = at-put-decimal2 .before .before .before .before in
+    let at-put-decimal = at-put .before .before .before .before in
+    let at-put-two = at-put-decimal .before .before .before .before in
+    (total-put _ _ (at-put-two .put-two .ensures .0) (at-put-decimal .put-decimal .ensures .0) (at-put .put .ensures) (at-put-decimal2 .put-decimal2 .ensures .0) (c .before .before .put2 .ensures), search needs)
 
 pub put-total-spec : {M : Type 1} → statement M
 put-total-spec =

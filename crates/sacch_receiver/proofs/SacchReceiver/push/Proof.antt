@@ -1,5 +1,5 @@
 -- `sacch_receiver::SacchReceiver::push` meets its contract: the word of a push. Assumes nothing.
-use Rattle.sacch_receiver.proofs.Found.{word-heard}
+use Rattle.sacch_receiver.proofs.Pushing.{word-heard}
 use borrow.Author.Needs.{needs}
 use Rattle.sacch_receiver.proofs.SacchReceiver.push.Statement.{statement}
 use Rattle.sacch_receiver.proofs.SacchReceiver.push.Tie as tie

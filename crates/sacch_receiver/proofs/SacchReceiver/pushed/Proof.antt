@@ -26,7 +26,10 @@ step-requires c κs =
 
 returns-3 : tie.Need-returns-3
 unfolding pushOf
-returns-3 c = rw (sym (c .before .before .before .receiver-fits .ensures) ∙ not-false _ (c .before .before .if1 .left), lt-ltb (c .before .before .before .before .args .field) 4096 (omega arith)) (c .step .ensures)
+returns-3 c =
+    let at-receiver-fits = c .before .before .before in
+    let entry = at-receiver-fits .before in
+    rw (sym (at-receiver-fits .receiver-fits .ensures) ∙ not-false _ (c .before .before .if1 .left), lt-ltb (entry .args .field) 4096 (omega arith)) (c .step .ensures)
 
 pub pushed-spec : {M : Type 1} → statement M
 pushed-spec = tie.close (tie.spec receiver-fits-requires returns returns-2 step-requires returns-3)

@@ -3,7 +3,7 @@ use mathlib.Core.Path.{ap}
 use native.Mathlib.Omega.{arith}
 use Rattle.sacch_receiver.specs.Receiver.{fieldStored, rowStored}
 use Rattle.sacch_receiver.specs.declared.SacchReceiver.{SacchReceiver}
-use Rattle.sacch_receiver.proofs.Found.{step-missing, step-complete}
+use Rattle.sacch_receiver.proofs.Pushing.{step-missing, step-complete}
 use borrow.Author.Needs.{needs}
 use Rattle.sacch_receiver.proofs.SacchReceiver.step.Statement.{statement}
 use Rattle.sacch_receiver.proofs.SacchReceiver.step.Tie as tie
@@ -28,7 +28,9 @@ returns c =
 
 with-row-requires : tie.Need-with-row-requires
 unfolding fieldStored
-with-row-requires c κs = (omega (arith, ap (λ (r : SacchReceiver). r .«row_cursor») (c .before .before .before .before .with-field .ensures)), omega (arith, ap (λ (r : SacchReceiver). r .phase) (c .before .before .before .before .with-field .ensures)))
+with-row-requires c κs =
+    let at-with-field = c .before .before .before .before in
+    (omega (arith, ap (λ (r : SacchReceiver). r .«row_cursor») (at-with-field .with-field .ensures)), omega (arith, ap (λ (r : SacchReceiver). r .phase) (at-with-field .with-field .ensures)))
 
 trial-requires : tie.Need-trial-requires
 unfolding rowStored

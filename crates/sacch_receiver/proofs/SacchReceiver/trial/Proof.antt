@@ -3,7 +3,7 @@ use mathlib.Core.Path.{sym, _∙_}
 use native.Mathlib.Omega.{arith}
 use borrow.Author.Tests.{lt-ltb, le-ltb}
 use Rattle.sacch_receiver.specs.Receiver.{tried}
-use Rattle.sacch_receiver.proofs.Found.{tried-now}
+use Rattle.sacch_receiver.proofs.Pushing.{tried-now}
 use borrow.Author.Needs.{needs}
 use Rattle.sacch_receiver.proofs.SacchReceiver.trial.Statement.{statement}
 use Rattle.sacch_receiver.proofs.SacchReceiver.trial.Tie as tie

@@ -29,7 +29,15 @@ both-requires-6 : tie.Need-both-requires-6
 both-requires-6 c κs = search needs
 
 returns : tie.Need-returns
-returns c = tests-all (c .before .before .before .before .before .before .before .before .before .before .before .before .before .before .before .args .r) (c .before .before .before .before .before .before .before .before .before .before .before .before .lock-fits .ensures) (c .before .before .before .before .before .before .before .before .before .before .before .stored-fit .ensures) (c .before .before .before .before .before .before .before .before .before .before .both .ensures) (c .before .before .before .before .before .before .before .both2 .ensures) (c .before .before .before .before .before .before .both3 .ensures) (c .before .before .both4 .ensures) (c .before .both5 .ensures) (c .both6 .ensures)
+returns c =
+    let at-both3 = c .before .before .before .before .before .before in
+    let at-both2 = at-both3 .before in
+    let at-both = at-both2 .before .before .before in
+    let at-stored-fit = at-both .before in
+    let at-lock-fits = at-stored-fit .before in
+    let entry = at-lock-fits .before .before .before in
+    tests-all (entry .args .r) (at-lock-fits .lock-fits .ensures) (at-stored-fit .stored-fit .ensures) (at-both .both .ensures) (at-both2 .both2 .ensures)
+    (at-both3 .both3 .ensures) (c .before .before .both4 .ensures) (c .before .both5 .ensures) (c .both6 .ensures)
 
 pub receiver-fits-spec : {M : Type 1} → statement M
 receiver-fits-spec =

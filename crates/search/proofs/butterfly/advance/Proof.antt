@@ -134,7 +134,11 @@ loop-less : tie.Need-loop-less Inv-loop μ-loop
 loop-less c = omega arith
 
 loop-again : tie.Need-loop-again Inv-loop μ-loop
-loop-again c = filled-more _ _ _ _ _ _ _ _ _ (omega arith) (c .before .before .before .before .before .loop .inv) (c .before .before .before .lesser .ensures) (c .before .before .lesser2 .ensures) (c .before .predecessor-byte .ensures) (c .predecessor-byte2 .ensures)
+loop-again c =
+    let at-lesser = c .before .before .before in
+    let at = at-lesser .before .before in
+    filled-more _ _ _ _ _ _ _ _ _ (omega arith) (at .loop .inv) (at-lesser .lesser .ensures) (c .before .before .lesser2 .ensures) (c .before .predecessor-byte .ensures)
+    (c .predecessor-byte2 .ensures)
 
 returns : tie.Need-returns Inv-loop μ-loop
 returns c = filled-all _ _ _ _ _ (c .before .loop .inv) (omega arith)

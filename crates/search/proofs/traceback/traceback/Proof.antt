@@ -5,10 +5,10 @@ use Rattle.search.proofs.traceback.traceback.Statement.{statement}
 use Rattle.search.proofs.traceback.traceback.Tie as tie
 
 abbrev Inv-loop : tie.InvT-loop
-Inv-loop predecessors end held bits₀ state₀ step₀ tie₀ bits state step tie = Tracing predecessors held end bits₀ bits state step tie
+Inv-loop predecessors end since bits₀ state₀ step₀ tie₀ bits state step tie = Tracing predecessors since end bits₀ bits state step tie
 
 abbrev μ-loop : tie.MeasureT-loop
-μ-loop predecessors end held bits₀ state₀ step₀ tie₀ bits state step tie = step
+μ-loop predecessors end since bits₀ state₀ step₀ tie₀ bits state step tie = step
 
 loop-holds : tie.Need-loop-holds Inv-loop μ-loop
 loop-holds c = tracing-none _ _ _ _ (c .before .pre .0)

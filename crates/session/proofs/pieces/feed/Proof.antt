@@ -23,13 +23,22 @@ add-i : tie.Need-add-i Inv-loop μ-loop
 add-i c = search needs
 
 feed-part-requires : tie.Need-feed-part-requires Inv-loop μ-loop
-feed-part-requires c κs = (c .before .before .before .before .before .before .loop .inv .fed .sound, feeding-room (c .before .before .before .before .before .before .loop .inv) (c .before .before .before .before .before .loop-test .taken) (c .before .before .before .before .before .before .before .before .before .before .before .pre .1), c .before .before .before .before .line-end .ensures)
+feed-part-requires c κs =
+    let at-line-end = c .before .before .before .before in
+    let at-loop-test = at-line-end .before in
+    let at = at-loop-test .before in
+    let entry = at .before .before .before .before .before in
+    (at .loop .inv .fed .fits, feeding-room (at .loop .inv) (at-loop-test .loop-test .taken) (entry .pre .1), at-line-end .line-end .ensures)
 
 loop-less : tie.Need-loop-less Inv-loop μ-loop
 loop-less c = search needs
 
 loop-again : tie.Need-loop-again Inv-loop μ-loop
-loop-again c = feeding-more (c .before .before .before .before .before .before .before .before .before .before .before .before .before .loop .inv) (omega arith) (c .before .before .before .before .before .before .before .before .before .before .before .line-end .ensures) (c .before .before .before .before .before .before .feed-part .ensures)
+loop-again c =
+    let at-feed-part = c .before .before .before .before .before .before in
+    let at-line-end = at-feed-part .before .before .before .before .before in
+    let at = at-line-end .before .before in
+    feeding-more (at .loop .inv) (omega arith) (at-line-end .line-end .ensures) (at-feed-part .feed-part .ensures)
 
 same-length : tie.Need-same-length Inv-loop μ-loop
 same-length c = search needs

@@ -1,7 +1,7 @@
 -- `session::pieces::feed_part` meets its contract: the bytes are kept, and the line is ended where its LF is there. Assumes nothing.
 use Prim.Native.Nat.{_-_}
 use native.Mathlib.Omega.{arith}
-use Rattle.session.proofs.Stepped.{kept-sound, part-waits, part-ends}
+use Rattle.session.proofs.Stepped.{kept-fits, part-waits, part-ends}
 use borrow.Author.Needs.{needs}
 use borrow.Author.Needs.{needs}
 use Rattle.session.proofs.pieces.feed_part.Statement.{statement}
@@ -20,7 +20,10 @@ keep-requires : tie.Need-keep-requires
 keep-requires c κs = search needs
 
 end-line-requires : tie.Need-end-line-requires
-end-line-requires c κs = (kept-sound _ _ _ (c .before .before .before .before .before .before .keep .ensures) (c .before .before .before .before .before .before .before .before .before .before .before .before .before .pre .0), c .before .before .before .before .before .before .before .before .before .before .before .before .before .pre .1)
+end-line-requires c κs =
+    let at-keep = c .before .before .before .before .before .before in
+    let entry = at-keep .before .before .before .before .before .before .before in
+    (kept-fits _ _ _ (at-keep .keep .ensures) (entry .pre .0), entry .pre .1)
 
 same-length : tie.Need-same-length
 same-length c = search needs
@@ -32,13 +35,21 @@ same-length-3 : tie.Need-same-length-3
 same-length-3 c = search needs
 
 returns : tie.Need-returns
-returns c = part-ends (c .before .before .before .before .before .before .before .before .before .before .before .before .before .before .before .before .before .before .pre .2) _ _ _ (c .before .before .before .before .before .before .before .before .before .before .before .before .before .before .before .before .before .before .pre .0) (c .before .before .before .before .before .before .before .before .before .before .before .keep .ensures) _ (c .before .before .before .before .before .before .before .before .if1 .taken) (c .before .before .before .before .end-line .ensures)
+returns c =
+    let at-end-line = c .before .before .before .before in
+    let at-if1 = at-end-line .before .before .before .before in
+    let at-keep = at-if1 .before .before .before in
+    let entry = at-keep .before .before .before .before .before .before .before in
+    part-ends (entry .pre .2) _ _ _ (entry .pre .0) (at-keep .keep .ensures) _ (at-if1 .if1 .taken) (at-end-line .end-line .ensures)
 
 same-length-4 : tie.Need-same-length-4
 same-length-4 c = search needs
 
 returns-2 : tie.Need-returns-2
-returns-2 c = part-waits (c .before .before .before .before .before .before .before .before .before .before .pre .2) _ _ _ (c .before .before .before .before .before .before .before .before .before .before .pre .0) (c .before .before .before .keep .ensures) _ _ (omega arith)
+returns-2 c =
+    let at-keep = c .before .before .before in
+    let entry = at-keep .before .before .before .before .before .before .before in
+    part-waits (entry .pre .2) _ _ _ (entry .pre .0) (at-keep .keep .ensures) _ _ (omega arith)
 
 pub feed-part-spec : {M : Type 1} → statement M
 feed-part-spec =

@@ -46,7 +46,11 @@ returns-2 c = c .reply-to-field .ensures ∙ replied-at _ _ (c .before .before .
 
 returns-3 : tie.Need-returns-3
 unfolding commandReplied
-returns-3 c = reset-replied (c .before .before .before .before .before .args .receiver) (c .before .before .before .before .before .args .line .now) (c .discontinuity .ensures) ∙ replied-at _ _ (c .before .before .before .parse .ensures) (c .before .enum-told2 .given .1)
+returns-3 c =
+    let at-parse = c .before .before .before in
+    let entry = at-parse .before .before in
+    reset-replied (entry .args .receiver) (entry .args .line .now) (c .discontinuity .ensures) ∙ replied-at _ _ (at-parse .parse .ensures)
+    (c .before .enum-told2 .given .1)
 
 returns-4 : tie.Need-returns-4
 unfolding commandReplied

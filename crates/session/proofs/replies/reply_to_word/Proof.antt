@@ -22,7 +22,12 @@ facch-reply-requires : tie.Need-facch-reply-requires
 facch-reply-requires c κs = search needs
 
 returns : tie.Need-returns
-returns c = facch-replied _ _ (c .before .decode-erased .result) (c .before .before .before .before .before .before .before .pre) (c .before .before .before .before .observed-bits .ensures) (c .before .decode-erased .ensures) (c .facch-reply .ensures)
+returns c =
+    let at-decode-erased = c .before in
+    let at-observed-bits = at-decode-erased .before .before .before in
+    let entry = at-observed-bits .before .before .before in
+    facch-replied _ _ (at-decode-erased .decode-erased .result) (entry .pre) (at-observed-bits .observed-bits .ensures) (at-decode-erased .decode-erased .ensures)
+    (c .facch-reply .ensures)
 
 pub reply-to-word-spec : {M : Type 1} → statement M
 reply-to-word-spec =

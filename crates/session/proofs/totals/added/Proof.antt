@@ -10,20 +10,20 @@ use Rattle.session.proofs.totals.added.Tie as tie
 enum-told : tie.Need-enum-told
 enum-told c = search needs
 
-no-word-requires : tie.Need-no-word-requires
-no-word-requires c κs = search needs
+nothing-added-requires : tie.Need-nothing-added-requires
+nothing-added-requires c κs = search needs
 
 enum-told-2 : tie.Need-enum-told-2
 enum-told-2 c = search needs
 
-no-word-requires-2 : tie.Need-no-word-requires-2
-no-word-requires-2 c κs = search needs
+nothing-added-requires-2 : tie.Need-nothing-added-requires-2
+nothing-added-requires-2 c κs = search needs
 
 enum-told-3 : tie.Need-enum-told-3
 enum-told-3 c = search needs
 
-no-word-requires-3 : tie.Need-no-word-requires-3
-no-word-requires-3 c κs = search needs
+nothing-added-requires-3 : tie.Need-nothing-added-requires-3
+nothing-added-requires-3 c κs = search needs
 
 enum-known-reply : tie.Need-enum-known-reply
 enum-known-reply c = search needs
@@ -34,8 +34,8 @@ one-word-requires c κs = search needs
 enum-told-4 : tie.Need-enum-told-4
 enum-told-4 c = search needs
 
-no-word-requires-4 : tie.Need-no-word-requires-4
-no-word-requires-4 c κs = search needs
+nothing-added-requires-4 : tie.Need-nothing-added-requires-4
+nothing-added-requires-4 c κs = search needs
 
 enum-known-reply-2 : tie.Need-enum-known-reply-2
 enum-known-reply-2 c = search needs
@@ -45,15 +45,15 @@ one-word-requires-2 c κs = search needs
 
 returns : tie.Need-returns
 unfolding addedBy
-returns c = (c .no-word .ensures .0 ∙ sym (ap addedBy (c .before .enum-told .given .1)), c .no-word .ensures .1)
+returns c = (c .nothing-added .ensures .0 ∙ sym (ap addedBy (c .before .enum-told .given .1)), c .nothing-added .ensures .1)
 
 returns-2 : tie.Need-returns-2
 unfolding addedBy
-returns-2 c = (c .no-word2 .ensures .0 ∙ sym (ap addedBy (c .before .enum-told2 .given .1)), c .no-word2 .ensures .1)
+returns-2 c = (c .nothing-added2 .ensures .0 ∙ sym (ap addedBy (c .before .enum-told2 .given .1)), c .nothing-added2 .ensures .1)
 
 returns-3 : tie.Need-returns-3
 unfolding addedBy
-returns-3 c = (c .no-word3 .ensures .0 ∙ sym (ap addedBy (c .before .enum-told3 .given .1)), c .no-word3 .ensures .1)
+returns-3 c = (c .nothing-added3 .ensures .0 ∙ sym (ap addedBy (c .before .enum-told3 .given .1)), c .nothing-added3 .ensures .1)
 
 returns-4 : tie.Need-returns-4
 unfolding addedBy
@@ -61,7 +61,7 @@ returns-4 c = (c .one-word .ensures .0 ∙ sym (ap addedBy (c .before .before .r
 
 returns-5 : tie.Need-returns-5
 unfolding addedBy
-returns-5 c = (c .no-word4 .ensures .0 ∙ sym (ap addedBy (c .before .enum-told4 .given .1)), c .no-word4 .ensures .1)
+returns-5 c = (c .nothing-added4 .ensures .0 ∙ sym (ap addedBy (c .before .enum-told4 .given .1)), c .nothing-added4 .ensures .1)
 
 returns-6 : tie.Need-returns-6
 unfolding addedBy
@@ -72,15 +72,15 @@ added-spec =
     tie.close
     (tie.spec
     enum-told
-    no-word-requires
+    nothing-added-requires
     enum-told-2
-    no-word-requires-2
+    nothing-added-requires-2
     enum-told-3
-    no-word-requires-3
+    nothing-added-requires-3
     enum-known-reply
     one-word-requires
     enum-told-4
-    no-word-requires-4
+    nothing-added-requires-4
     enum-known-reply-2
     one-word-requires-2
     returns

@@ -19,7 +19,10 @@ same-length : tie.Need-same-length
 same-length c = search needs
 
 returns : tie.Need-returns
-returns c = (closing-put _ _ (c .before .before .before .before .before .before .before .before .rate .ensures) (c .before .before .before .before .before .before .put-total .ensures .0) (c .before .before .put-codes .ensures .0), search needs)
+returns c =
+    let at-put-total = c .before .before .before .before .before .before in
+    let at-rate = at-put-total .before .before in
+    (closing-put _ _ (at-rate .rate .ensures) (at-put-total .put-total .ensures .0) (c .before .before .put-codes .ensures .0), search needs)
 
 pub put-closing-spec : {M : Type 1} → statement M
 put-closing-spec =

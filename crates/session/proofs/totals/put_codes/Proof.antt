@@ -34,7 +34,11 @@ loop-less : tie.Need-loop-less Inv-loop μ-loop
 loop-less c = search needs
 
 loop-again : tie.Need-loop-again Inv-loop μ-loop
-loop-again c = listing-more (c .before .before .before .before .before .before .loop .inv) (c .before .before .before .before .before .loop-test .taken) (c .before .before .put-line .ensures .0) (c .before .before .put-line .ensures .1)
+loop-again c =
+    let at-put-line = c .before .before in
+    let at-loop-test = at-put-line .before .before .before in
+    let at = at-loop-test .before in
+    listing-more (at .loop .inv) (at-loop-test .loop-test .taken) (at-put-line .put-line .ensures .0) (at-put-line .put-line .ensures .1)
 
 same-length : tie.Need-same-length Inv-loop μ-loop
 same-length c = search needs

@@ -40,7 +40,10 @@ loop-less : tie.Need-loop-less Inv-loop μ-loop
 loop-less c = search needs
 
 loop-again : tie.Need-loop-again Inv-loop μ-loop
-loop-again c = (refl, counting-more (c .before .before .before .before .loop .inv .1) _ (omega arith) (c .before .before .before .before .before .before .before .pre .1) (c .differs-from-sign .ensures .0))
+loop-again c =
+    let at = c .before .before .before .before in
+    let entry = at .before .before .before in
+    (refl, counting-more (at .loop .inv .1) _ (omega arith) (entry .pre .1) (c .differs-from-sign .ensures .0))
 
 returns : tie.Need-returns Inv-loop μ-loop
 returns c = counting-done (c .before .loop .inv .1) (omega arith)

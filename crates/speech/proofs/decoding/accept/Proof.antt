@@ -18,7 +18,10 @@ slice-aggregate-pack : tie.Need-slice-aggregate-pack
 slice-aggregate-pack c = search needs
 
 pack-requires : tie.Need-pack-requires
-pack-requires c κs = (omega (arith, c .before .before .take-parity .kept .1 .0), gathered-binary parityPlaces (c .before .before .before .before .before .args .inputs .now) (c .before .before .take-parity .ensures))
+pack-requires c κs =
+    let at-take-parity = c .before .before in
+    let entry = at-take-parity .before .before .before in
+    (omega (arith, at-take-parity .take-parity .kept .1 .0), gathered-binary parityPlaces (entry .args .inputs .now) (at-take-parity .take-parity .ensures))
 
 checksum-requires : tie.Need-checksum-requires
 checksum-requires c κs = search needs
@@ -27,10 +30,18 @@ cast-if1 : tie.Need-cast-if1
 cast-if1 c = search needs
 
 returns : tie.Need-returns
-returns c = told-as (bits (c .before .before .before .before .before .before .before .before .args .inputs .now)) _ (failed (c .before .before .before .before .before .before .before .before .args .inputs .now) _ (c .before .before .before .before .before .take-parity .ensures) (c .before .before .pack .ensures) (c .before .checksum .ensures) (c .if1 .taken))
+returns c =
+    let at-take-parity = c .before .before .before .before .before in
+    let entry = at-take-parity .before .before .before in
+    told-as (bits (entry .args .inputs .now)) _
+    (failed (entry .args .inputs .now) _ (at-take-parity .take-parity .ensures) (c .before .before .pack .ensures) (c .before .checksum .ensures) (c .if1 .taken))
 
 returns-2 : tie.Need-returns-2
-returns-2 c = told-as (bits (c .before .before .before .before .before .before .before .before .args .inputs .now)) _ (valid (c .before .before .before .before .before .before .before .before .args .inputs .now) _ (c .before .before .before .before .before .take-parity .ensures) (c .before .before .pack .ensures) (c .before .checksum .ensures) (c .if1 .left))
+returns-2 c =
+    let at-take-parity = c .before .before .before .before .before in
+    let entry = at-take-parity .before .before .before in
+    told-as (bits (entry .args .inputs .now)) _
+    (valid (entry .args .inputs .now) _ (at-take-parity .take-parity .ensures) (c .before .before .pack .ensures) (c .before .checksum .ensures) (c .if1 .left))
 
 pub accept-spec : {M : Type 1} → statement M
 accept-spec =

@@ -27,7 +27,10 @@ same-length : tie.Need-same-length
 same-length c = search needs
 
 returns : tie.Need-returns
-returns c = found (c .before .before .before .before .before .before .before .before .before .before .args .frame .now) (c .before .before .before .before .before .before .take-protected .ensures) (c .before .before .before .before .before .before .before .before .before .before .pre .2) (c .before .before .terminated .ensures)
+returns c =
+    let at-take-protected = c .before .before .before .before .before .before in
+    let entry = at-take-protected .before .before .before .before in
+    found (entry .args .frame .now) (at-take-protected .take-protected .ensures) (entry .pre .2) (c .before .before .terminated .ensures)
 
 pub nearest-inputs-spec : {M : Type 1} → statement M
 nearest-inputs-spec =

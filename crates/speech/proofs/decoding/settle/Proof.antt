@@ -21,11 +21,11 @@ nearest-inputs-requires c κs =
 returns : tie.Need-returns
 returns c = unclear-end (c .before .before .before .before .before .before .before .pre) (c .before .before .nearest-inputs .ensures) (c .if1 .taken)
 
-slice-aggregate-copy-run : tie.Need-slice-aggregate-copy-run
-slice-aggregate-copy-run c = search needs
+slice-aggregate-copy-range : tie.Need-slice-aggregate-copy-range
+slice-aggregate-copy-range c = search needs
 
-copy-run-requires : tie.Need-copy-run-requires
-copy-run-requires c κs =
+copy-range-requires : tie.Need-copy-range-requires
+copy-range-requires c κs =
     let entry = c .before .before .before .before .before .before .before .before .before in
     let passed = decode-passed (entry .args .frame .now) (length (entry .args .class-one .now)) (length (entry .args .class-two .now)) (entry .pre) in
     (omega (arith, c .before .before .before .before .nearest-inputs .kept .1 .0), omega (arith, passed .1))
@@ -40,7 +40,9 @@ slice-aggregate-accept : tie.Need-slice-aggregate-accept
 slice-aggregate-accept c = search needs
 
 accept-requires : tie.Need-accept-requires
-accept-requires c κs = (c .before .before .before .before .before .before .before .before .before .before .before .before .nearest-inputs .kept .1 .0, inputs-binary (c .before .before .before .before .before .before .before .before .before .before .before .before .nearest-inputs .ensures))
+accept-requires c κs =
+    let at-nearest-inputs = c .before .before .before .before .before .before .before .before .before .before .before .before in
+    (at-nearest-inputs .nearest-inputs .kept .1 .0, inputs-binary (at-nearest-inputs .nearest-inputs .ensures))
 
 same-length : tie.Need-same-length
 same-length c = search needs
@@ -52,7 +54,7 @@ returns-2 : tie.Need-returns-2
 returns-2 c =
     let entry = c .before .before .before .before .before .before .before .before .before .before .before .before .before .before .before .before .before .before in
     let passed = decode-passed (entry .args .frame .now) (length (entry .args .class-one .now)) (length (entry .args .class-two .now)) (entry .pre) in
-    settled-end (entry .pre) (c .before .before .before .before .before .before .before .before .before .before .before .before .before .nearest-inputs .ensures) (c .before .before .before .before .before .before .before .before .before .before .before .if1 .left) (copied-out (c .before .before .before .before .before .before .before .before .before .before .before .before .before .nearest-inputs .last .1 .0) (entry .args .class-one .now) (passed .1) (c .before .before .before .before .before .before .before .before .copy-run .ensures)) (c .before .before .before .before .take-class-two .ensures) (c .accept .ensures)
+    settled-end (entry .pre) (c .before .before .before .before .before .before .before .before .before .before .before .before .before .nearest-inputs .ensures) (c .before .before .before .before .before .before .before .before .before .before .before .if1 .left) (copied-out (c .before .before .before .before .before .before .before .before .before .before .before .before .before .nearest-inputs .last .1 .0) (entry .args .class-one .now) (passed .1) (c .before .before .before .before .before .before .before .before .copy-range .ensures)) (c .before .before .before .before .take-class-two .ensures) (c .accept .ensures)
 
 pub settle-spec : {M : Type 1} → statement M
 settle-spec =
@@ -61,8 +63,8 @@ settle-spec =
     slice-aggregate-nearest-inputs
     nearest-inputs-requires
     returns
-    slice-aggregate-copy-run
-    copy-run-requires
+    slice-aggregate-copy-range
+    copy-range-requires
     take-class-two-requires
     slice-aggregate-accept
     accept-requires

@@ -5,7 +5,7 @@ use Rattle.bits.proofs.Binary.{bits-bytes, binary-bytes}
 use Rattle.coding.specs.Codes.{coded, dcch}
 use Rattle.coding.specs.Registers.{memoryHigh}
 use Rattle.speech.specs.Inputs.{inputsOf}
-use Rattle.speech.specs.Turns.{placed}
+use Rattle.speech.specs.Classes.{placed}
 use Rattle.speech.specs.Frames.{frameOf}
 use borrow.Author.Needs.{needs}
 use Rattle.speech.proofs.encoding.fill_frame.Statement.{statement}

@@ -7,11 +7,14 @@ use borrow.Author.Needs.{needs}
 use Rattle.speech.proofs.inputs.fill_inputs.Statement.{statement}
 use Rattle.speech.proofs.inputs.fill_inputs.Tie as tie
 
-copy-run-requires : tie.Need-copy-run-requires
-copy-run-requires c κs = (omega arith, omega (arith, ap length (c .before .before .before .pre .2)))
+copy-range-requires : tie.Need-copy-range-requires
+copy-range-requires c κs = (omega arith, omega (arith, ap length (c .before .before .before .pre .2)))
 
 checksum-requires : tie.Need-checksum-requires
-checksum-requires c κs = (one-length (c .before .before .before .before .before .before .before .args .class-one .now) (c .before .before .before .before .before .before .before .pre .0) (c .before .before .before .before .before .before .before .pre .1) (c .before .before .before .before .before .before .before .pre .2) (c .before .before .before .copy-run .ensures), one-binary (c .before .before .before .before .before .before .before .args .class-one .now) (c .before .before .before .before .before .before .before .pre .0) (c .before .before .before .before .before .before .before .pre .1) (c .before .before .before .before .before .before .before .pre .2) (c .before .before .before .copy-run .ensures))
+checksum-requires c κs =
+    let at-copy-range = c .before .before .before in
+    let entry = at-copy-range .before .before .before .before in
+    (one-length (entry .args .class-one .now) (entry .pre .0) (entry .pre .1) (entry .pre .2) (at-copy-range .copy-range .ensures), one-binary (entry .args .class-one .now) (entry .pre .0) (entry .pre .1) (entry .pre .2) (at-copy-range .copy-range .ensures))
 
 cast-unpack : tie.Need-cast-unpack
 cast-unpack c = search needs
@@ -26,19 +29,29 @@ slice-aggregate-put-parity : tie.Need-slice-aggregate-put-parity
 slice-aggregate-put-parity c = search needs
 
 put-parity-requires : tie.Need-put-parity-requires
-put-parity-requires c κs = (parity-bytes _ (c .before .before .before .unpack .ensures) .0, parity-bytes _ (c .before .before .before .unpack .ensures) .1, one-length (c .before .before .before .before .before .before .before .before .before .before .before .before .before .args .class-one .now) (c .before .before .before .before .before .before .before .before .before .before .before .before .before .pre .0) (c .before .before .before .before .before .before .before .before .before .before .before .before .before .pre .1) (c .before .before .before .before .before .before .before .before .before .before .before .before .before .pre .2) (c .before .before .before .before .before .before .before .before .before .copy-run .ensures))
+put-parity-requires c κs =
+    let at-unpack = c .before .before .before in
+    let at-copy-range = at-unpack .before .before .before .before .before .before in
+    let entry = at-copy-range .before .before .before .before in
+    (parity-bytes _ (at-unpack .unpack .ensures) .0, parity-bytes _ (at-unpack .unpack .ensures) .1, one-length (entry .args .class-one .now) (entry .pre .0) (entry .pre .1) (entry .pre .2) (at-copy-range .copy-range .ensures))
 
 same-length : tie.Need-same-length
 same-length c = search needs
 
 returns : tie.Need-returns
-returns c = inputs-filled (c .before .before .before .before .before .before .before .before .before .before .before .before .before .before .before .before .args .class-one .now) (c .before .before .before .before .before .before .before .before .before .before .before .before .before .before .before .before .pre .0) (c .before .before .before .before .before .before .before .before .before .before .before .before .before .before .before .before .pre .1) (c .before .before .before .before .before .before .before .before .before .before .before .before .before .before .before .before .pre .2) (c .before .before .before .before .before .before .before .before .before .before .before .before .copy-run .ensures) (c .before .before .before .before .before .before .before .before .checksum .ensures) (c .before .before .before .before .before .before .unpack .ensures) (c .before .before .put-parity .ensures)
+returns c =
+    let at-unpack = c .before .before .before .before .before .before in
+    let at-checksum = at-unpack .before .before in
+    let at-copy-range = at-checksum .before .before .before .before in
+    let entry = at-copy-range .before .before .before .before in
+    inputs-filled (entry .args .class-one .now) (entry .pre .0) (entry .pre .1) (entry .pre .2) (at-copy-range .copy-range .ensures) (at-checksum .checksum .ensures)
+    (at-unpack .unpack .ensures) (c .before .before .put-parity .ensures)
 
 pub fill-inputs-spec : {M : Type 1} → statement M
 fill-inputs-spec =
     tie.close
     (tie.spec
-    copy-run-requires
+    copy-range-requires
     checksum-requires
     cast-unpack
     slice-aggregate-unpack

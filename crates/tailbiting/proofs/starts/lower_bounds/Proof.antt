@@ -1,7 +1,7 @@
 -- `tailbiting::starts::lower_bounds` meets its contract: a path from a given start costs no less than one from any. Assumes nothing.
 use native.Mathlib.Omega.{arith}
 use borrow.Author.Needs.{needs}
-use Rattle.tailbiting.proofs.Turns.{starts-low, bounded}
+use Rattle.tailbiting.proofs.Tries.{starts-low, bounded}
 use Rattle.tailbiting.proofs.starts.lower_bounds.Statement.{statement}
 use Rattle.tailbiting.proofs.starts.lower_bounds.Tie as tie
 

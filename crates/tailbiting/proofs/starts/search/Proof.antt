@@ -7,7 +7,7 @@ use borrow.Author.Needs.{needs}
 use Rattle.search.specs.Forward.{branchBy}
 use Rattle.trellis.specs.Search.{Found}
 use Rattle.tailbiting.specs.Starts.{Tried, tailMetric}
-use Rattle.tailbiting.proofs.Turns.{first-found, all-tried}
+use Rattle.tailbiting.proofs.Tries.{first-found, all-tried}
 use Rattle.tailbiting.proofs.starts.search.Statement.{statement}
 use Rattle.tailbiting.proofs.starts.search.Tie as tie
 
@@ -28,7 +28,10 @@ nearest-between-requires : tie.Need-nearest-between-requires Inv-loop μ-loop
 nearest-between-requires c κs = search needs
 
 loop-holds : tie.Need-loop-holds Inv-loop μ-loop
-loop-holds c = (omega arith, search needs, first-found _ _ _ _ _ (c .before .before .before .before .lowest .ensures) (c .before .before .before .before .before .before .before .before .before .pre .0) (c .before .before .nearest-between .ensures))
+loop-holds c =
+    let at-lowest = c .before .before .before .before in
+    let entry = at-lowest .before .before .before .before .before in
+    (omega arith, search needs, first-found _ _ _ _ _ (at-lowest .lowest .ensures) (entry .pre .0) (c .before .before .nearest-between .ensures))
 
 visit-requires : tie.Need-visit-requires Inv-loop μ-loop
 visit-requires c κs =

@@ -1,7 +1,7 @@
 -- `tailbiting::starts::visit` meets its contract: one more start is tried or passed over. Assumes nothing.
 use mathlib.Core.Path.{refl}
 use borrow.Author.Needs.{needs}
-use Rattle.tailbiting.proofs.Turns.{passed, tried-run}
+use Rattle.tailbiting.proofs.Tries.{passed, tried-run}
 use Rattle.tailbiting.proofs.starts.visit.Statement.{statement}
 use Rattle.tailbiting.proofs.starts.visit.Tie as tie
 

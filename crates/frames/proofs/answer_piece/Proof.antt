@@ -1,12 +1,12 @@
--- `frames::take_turn` meets its contract: what was read is fed, and its answers stand at the start of the output buffer. Assumes nothing.
+-- `frames::answer_piece` meets its contract: what was read is fed, and its answers stand at the start of the output buffer. Assumes nothing.
 use mathlib.Core.Path.{sym, _∙_}
 use Prim.Native.Nat.{_-_}
 use lib.Seq.{length-take-le}
-use Rattle.frames.proofs.Reaching.{nothing-turned, piece-reached}
+use Rattle.frames.proofs.Reaching.{nothing-answered, piece-reached}
 use borrow.Author.Needs.{needs}
 use borrow.Author.Needs.{needs}
-use Rattle.frames.proofs.take_turn.Statement.{statement}
-use Rattle.frames.proofs.take_turn.Tie as tie
+use Rattle.frames.proofs.answer_piece.Statement.{statement}
+use Rattle.frames.proofs.answer_piece.Tie as tie
 
 read-requires : tie.Need-read-requires
 read-requires c κs = search needs
@@ -18,7 +18,9 @@ same-length : tie.Need-same-length
 same-length c = search needs
 
 returns : tie.Need-returns
-returns c = (nothing-turned (c .before .before .before .before .before .before .before .before .before .before .before .pre .0) _ _, (c .before .before .before .before .before .before .before .before .before .before .before .pre .0, search needs, c .before .before .before .before .before .before .before .before .before .before .before .pre .2))
+returns c =
+    let entry = c .before .before .before .before .before .before .before .before .before .before .before in
+    (nothing-answered (entry .pre .0) _ _, (entry .pre .0, search needs, entry .pre .2))
 
 slice-reshare-prefix-feed : tie.Need-slice-reshare-prefix-feed
 slice-reshare-prefix-feed c = search needs
@@ -59,8 +61,8 @@ returns-2 c = let f = c .before .before .before .before .before .before .before 
   (piece-reached (c .before .before .before .before .before .before .before .before .before .before .before .before .before .before .before .before .before .before .before .before .before .before .before .before .before .before .before .pre .0) (c .before .before .before .before .before .before .before .before .before .before .before .feed .result) (f .0), c .before .before .before .before .before .before .before .before .before .before .before .before .before .before .before .before .before .before .before .before .before .before .before .before .before .before .before .pre .1 ∙ sym (same-length-2 c), c .before .before .before .before .before .before .before .before .before .before .before .before .before .before .before .before .before .before .before .before .before .before .before .before .before .before .before .pre .2 ∙ sym (f .0 .text .kept)),
 )
 
-pub take-turn-spec : {M : Type 1} → statement M
-take-turn-spec =
+pub answer-piece-spec : {M : Type 1} → statement M
+answer-piece-spec =
     tie.close
     (tie.spec
     read-requires

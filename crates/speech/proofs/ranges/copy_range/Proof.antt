@@ -1,10 +1,10 @@
--- `speech::runs::copy_run` meets its contract: i bytes of the run are copied. Assumes nothing.
+-- `speech::ranges::copy_range` meets its contract: i bytes of the range are copied. Assumes nothing.
 use Prim.Native.Nat.{_-_}
 use native.Mathlib.Omega.{arith}
-use Rattle.speech.proofs.Running.{Copying, copying-none, copying-more, copying-length, copying-done}
+use Rattle.speech.proofs.Copying.{Copying, copying-none, copying-more, copying-length, copying-done}
 use borrow.Author.Needs.{needs}
-use Rattle.speech.proofs.runs.copy_run.Statement.{statement}
-use Rattle.speech.proofs.runs.copy_run.Tie as tie
+use Rattle.speech.proofs.ranges.copy_range.Statement.{statement}
+use Rattle.speech.proofs.ranges.copy_range.Tie as tie
 
 abbrev Inv-loop : tie.InvT-loop
 Inv-loop source start target₀ at n i₀ target i = Copying source target₀ target start at n i
@@ -42,8 +42,8 @@ same-length c = copying-length (c .before .loop .inv) (c .before .before .pre .0
 returns : tie.Need-returns Inv-loop μ-loop
 returns c = copying-done (c .before .loop .inv) (c .before .before .pre .0) (c .before .before .pre .1) (omega arith)
 
-pub copy-run-spec : {M : Type 1} → statement M
-copy-run-spec =
+pub copy-range-spec : {M : Type 1} → statement M
+copy-range-spec =
     tie.close
     (tie.spec
     Inv-loop

@@ -1,4 +1,4 @@
--- `sacch_interleaver::weight` meets its contract: a test of the places and turns. Assumes nothing.
+-- `sacch_interleaver::bit_value` meets its contract: a test of the places and turns. Assumes nothing.
 use mathlib.Core.Bool.{Bool}
 use Prim.Native.Nat.{ℕ, _+_, _-_, _*_, _/_, _%_, _^_}
 use lib.Bits.{bitOr}
@@ -6,8 +6,8 @@ use lib.Dec.{eqb, eqb→eq}
 use Rattle.bits.proofs.Tested.{every, below}
 use borrow.Author.Needs.{needs}
 use native.Mathlib.Omega.{arith}
-use Rattle.sacch_interleaver.proofs.weight.Statement.{statement}
-use Rattle.sacch_interleaver.proofs.weight.Tie as tie
+use Rattle.sacch_interleaver.proofs.bit_value.Statement.{statement}
+use Rattle.sacch_interleaver.proofs.bit_value.Tie as tie
 
 cast-first : tie.Need-cast-first
 cast-first c = search needs
@@ -32,18 +32,18 @@ shr-result c = search needs
 
 -- the value that is returned
 abbrev made : ℕ → ℕ → ℕ
-made place turn = bitOr (1 * 2 ^ place % 65536 * 2 ^ turn % 65536 % 4096) (1 * 2 ^ place % 65536 / 2 ^ (12 - turn))
+made place shift = bitOr (1 * 2 ^ place % 65536 * 2 ^ shift % 65536 % 4096) (1 * 2 ^ place % 65536 / 2 ^ (12 - shift))
 
 abbrev right : ℕ → ℕ → Bool
-right place turn = eqb (made place turn) (2 ^ ((place + turn) % 12))
+right place shift = eqb (made place shift) (2 ^ ((place + shift) % 12))
 
 returns : tie.Need-returns
 returns c =
     let a = c .args in
-    eqb→eq (made (a .place) (a .turn)) (2 ^ ((a .place + a .turn) % 12))
-    (below (right (a .place)) 13 (below (λ p. every (right p) 13) 12 tt (a .place) (omega arith)) (a .turn) (omega arith))
+    eqb→eq (made (a .place) (a .shift)) (2 ^ ((a .place + a .shift) % 12))
+    (below (right (a .place)) 13 (below (λ p. every (right p) 13) 12 tt (a .place) (omega arith)) (a .shift) (omega arith))
 
-pub weight-spec : {M : Type 1} → statement M
-weight-spec =
+pub bit-value-spec : {M : Type 1} → statement M
+bit-value-spec =
     tie.close
     (tie.spec cast-first shl-first cast-result shl-result sub-result cast-result-2 shr-result returns)

@@ -3,10 +3,10 @@ ghost use mathlib.Core.Path.{_≡_};
 ghost use Prim.Native.Nat.{_+_, _≤_};
 ghost use lib.ListN.{drop, length};
 ghost use lib.Seq.{paste};
-ghost use Rattle.speech.specs.Runs.{Bounds, putRuns, runsOf, totalOf};
+ghost use Rattle.speech.specs.Ranges.{Bounds, putRanges, rangesOf, totalOf};
 
-// Copies a run of n bytes.
-pub fn copy_run(source: &[u8], start: usize, target: &mut [u8], at: usize, n: usize)
+// Copies a range of n bytes.
+pub fn copy_range(source: &[u8], start: usize, target: &mut [u8], at: usize, n: usize)
     requires { ⌜ (start + n ≤ length (now source)) × (at + n ≤ length (now target)) ⌝ }
     ensures { λ _. ⌜ now (target .exit) ≡ paste (now (target .entry)) at (drop start (now (source .entry))) n ⌝ }
 {
@@ -16,29 +16,29 @@ pub fn copy_run(source: &[u8], start: usize, target: &mut [u8], at: usize, n: us
 }
 
 // Writes the runs of a list between bounds, one after the other.
-pub fn take_runs(bounds: &[usize], list: &[u8], out: &mut [u8])
+pub fn take_ranges(bounds: &[usize], list: &[u8], out: &mut [u8])
     requires { ⌜ Bounds (now bounds) (length (now list)) × (length (now out) ≡ totalOf (now bounds)) ⌝ }
-    ensures { λ _. ⌜ now (out .exit) ≡ runsOf (now (bounds .entry)) (now (list .entry)) ⌝ }
+    ensures { λ _. ⌜ now (out .exit) ≡ rangesOf (now (bounds .entry)) (now (list .entry)) ⌝ }
 {
     let mut at = 0;
-    for run in 0..bounds.len() / 2 {
-        let from = bounds[run * 2];
-        let n = bounds[run * 2 + 1] - from;
-        copy_run(list, from, out, at, n);
+    for range in 0..bounds.len() / 2 {
+        let from = bounds[range * 2];
+        let n = bounds[range * 2 + 1] - from;
+        copy_range(list, from, out, at, n);
         at += n;
     }
 }
 
 // Writes bits, in order, into the runs of a list between bounds.
-pub fn put_runs(bounds: &[usize], bits: &[u8], list: &mut [u8])
+pub fn put_ranges(bounds: &[usize], bits: &[u8], list: &mut [u8])
     requires { ⌜ Bounds (now bounds) (length (now list)) × (length (now bits) ≡ totalOf (now bounds)) ⌝ }
-    ensures { λ _. ⌜ now (list .exit) ≡ putRuns (now (bounds .entry)) (now (bits .entry)) (now (list .entry)) ⌝ }
+    ensures { λ _. ⌜ now (list .exit) ≡ putRanges (now (bounds .entry)) (now (bits .entry)) (now (list .entry)) ⌝ }
 {
     let mut at = 0;
-    for run in 0..bounds.len() / 2 {
-        let from = bounds[run * 2];
-        let n = bounds[run * 2 + 1] - from;
-        copy_run(bits, at, list, from, n);
+    for range in 0..bounds.len() / 2 {
+        let from = bounds[range * 2];
+        let n = bounds[range * 2 + 1] - from;
+        copy_range(bits, at, list, from, n);
         at += n;
     }
 }

@@ -19,13 +19,13 @@ totalOf (a ∷ []) = 0
 totalOf (a ∷ b ∷ bounds) = (b - a) + totalOf bounds
 
 -- the runs of a list, one after the other
-unfoldable pub runsOf : {A : Type 0} → List ℕ → List A → List A
-runsOf [] l = []
-runsOf (a ∷ []) l = []
-runsOf (a ∷ b ∷ bounds) l = take (b - a) (drop a l) ++ runsOf bounds l
+unfoldable pub rangesOf : {A : Type 0} → List ℕ → List A → List A
+rangesOf [] l = []
+rangesOf (a ∷ []) l = []
+rangesOf (a ∷ b ∷ bounds) l = take (b - a) (drop a l) ++ rangesOf bounds l
 
 -- a list with bits, in order, in its runs
-unfoldable pub putRuns : {A : Type 0} → List ℕ → List A → List A → List A
-putRuns [] bits l = l
-putRuns (a ∷ []) bits l = l
-putRuns (a ∷ b ∷ bounds) bits l = putRuns bounds (drop (b - a) bits) (paste l a bits (b - a))
+unfoldable pub putRanges : {A : Type 0} → List ℕ → List A → List A → List A
+putRanges [] bits l = l
+putRanges (a ∷ []) bits l = l
+putRanges (a ∷ b ∷ bounds) bits l = putRanges bounds (drop (b - a) bits) (paste l a bits (b - a))

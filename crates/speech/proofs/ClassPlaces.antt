@@ -10,8 +10,8 @@ use Rattle.bits.specs.Bits.{byte, bits, bytes, allBinary}
 use Rattle.bits.specs.Places.{listed}
 use Rattle.bits.proofs.Listed.{map-listed, listed-same}
 use Rattle.bits.proofs.Tested.{both, both-left, both-right, every, below}
-use Rattle.speech.specs.Turns.{isClassTwo, passing, placed, takenFrom, classTwoOf, protectedOf}
-use Rattle.speech.specs.Runs.{Bounds, runsOf, putRuns}
+use Rattle.speech.specs.Classes.{isClassTwo, passing, placed, takenFrom, classTwoOf, protectedOf}
+use Rattle.speech.specs.Ranges.{Bounds, rangesOf, putRanges}
 use Rattle.speech.proofs.InputBits.{byte-at, by-places}
 
 -- ---- bounds, by one test
@@ -40,35 +40,35 @@ between = take 16 (drop 1 turns)
 
 -- ---- what the runs hold, by computation on a frame that any function lists
 module _ {A : Type 0} (f : ℕ → A) where
-  two-listed : runsOf turns (listed 260 f) ≡ classTwoOf (listed 260 f)
-  unfolding runsOf listed takenFrom isClassTwo
+  two-listed : rangesOf turns (listed 260 f) ≡ classTwoOf (listed 260 f)
+  unfolding rangesOf listed takenFrom isClassTwo
   two-listed = refl
 
-  protected-listed : runsOf between (listed 260 f) ≡ protectedOf (listed 260 f)
-  unfolding runsOf listed takenFrom isClassTwo
+  protected-listed : rangesOf between (listed 260 f) ≡ protectedOf (listed 260 f)
+  unfolding rangesOf listed takenFrom isClassTwo
   protected-listed = refl
 
-  merged-listed : (g h : ℕ → A) → putRuns between (listed 178 h) (putRuns turns (listed 82 g) (listed 260 f))
+  merged-listed : (g h : ℕ → A) → putRanges between (listed 178 h) (putRanges turns (listed 82 g) (listed 260 f))
       ≡ listed 260 (λ p. cond (isClassTwo p) (g (passing isClassTwo p)) (h (passing (λ q. not (isClassTwo q)) p)))
-  unfolding putRuns listed isClassTwo passing
+  unfolding putRanges listed isClassTwo passing
   merged-listed g h = refl
 
 -- ---- and of any frame
-pub class-two-runs : (frame : List ℕ) → length frame ≡ 260 → runsOf turns frame ≡ classTwoOf frame
+pub class-two-runs : (frame : List ℕ) → length frame ≡ 260 → rangesOf turns frame ≡ classTwoOf frame
 class-two-runs frame e =
     let l : frame ≡ listed 260 (λ i. getD frame i 0) = by-places 0 260 frame e in
-    ap (runsOf turns) l ∙ two-listed (λ i. getD frame i 0) ∙ ap classTwoOf (sym l)
+    ap (rangesOf turns) l ∙ two-listed (λ i. getD frame i 0) ∙ ap classTwoOf (sym l)
 
-pub protected-runs : (frame : List ℕ) → length frame ≡ 260 → runsOf between frame ≡ protectedOf frame
+pub protected-runs : (frame : List ℕ) → length frame ≡ 260 → rangesOf between frame ≡ protectedOf frame
 protected-runs frame e =
     let l : frame ≡ listed 260 (λ i. getD frame i 0) = by-places 0 260 frame e in
-    ap (runsOf between) l ∙ protected-listed (λ i. getD frame i 0) ∙ ap protectedOf (sym l)
+    ap (rangesOf between) l ∙ protected-listed (λ i. getD frame i 0) ∙ ap protectedOf (sym l)
 
 module _ (protected two frame : List ℕ) (sizes : (length protected ≡ 178) × (length two ≡ 82) × (length frame ≡ 260)) (binary : (allBinary protected ≡ true) × (allBinary two ≡ true)) where
-  pub merged : putRuns between protected (putRuns turns two frame) ≡ bytes (placed (bits protected) (bits two))
+  pub merged : putRanges between protected (putRanges turns two frame) ≡ bytes (placed (bits protected) (bits two))
   unfolding placed
   merged =
-      ap₂ (putRuns between) (by-places 0 178 protected (sizes .0)) (ap₂ (putRuns turns) (by-places 0 82 two (sizes .1)) (by-places 0 260 frame (sizes .2)))
+      ap₂ (putRanges between) (by-places 0 178 protected (sizes .0)) (ap₂ (putRanges turns) (by-places 0 82 two (sizes .1)) (by-places 0 260 frame (sizes .2)))
       ∙ merged-listed (λ i. getD frame i 0) (λ i. getD two i 0) (λ i. getD protected i 0)
       ∙ sym (map-listed byte 260 _ ∙ listed-same 260 _ _ (λ p. go (isClassTwo p) (passing isClassTwo p) (passing (λ q. not (isClassTwo q)) p)))
     where

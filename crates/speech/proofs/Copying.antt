@@ -8,7 +8,7 @@ use native.Mathlib.Numerals.{add-one}
 use lib.ListN.{length, getD, set, take, drop, length-drop}
 use lib.Seq.{paste, paste-zero, paste-suc, length-paste, take-paste, getD-drop, drop-drop, drop-length, take-all}
 use Rattle.bits.proofs.Tally.{drop-two}
-use Rattle.speech.specs.Runs.{Bounds, totalOf, runsOf, putRuns}
+use Rattle.speech.specs.Ranges.{Bounds, totalOf, rangesOf, putRanges}
 
 -- ---- a run that is copied: i of its bytes are
 pub record Copying (source target₀ target : List ℕ) (start at n i : ℕ) : Type 0 where
@@ -55,15 +55,15 @@ module _ (bounds : List ℕ) {n : ℕ} (b : Bounds bounds n) (k : ℕ) (h : k < 
   unfolding totalOf
   total-here = ap totalOf here
 
-  pub runs-here : (l : List ℕ) → runsOf (drop (k * 2) bounds) l
-      ≡ take (getD bounds (k * 2 + 1) 0 - getD bounds (k * 2) 0) (drop (getD bounds (k * 2) 0) l) ++ runsOf (drop ((k + 1) * 2) bounds) l
-  unfolding runsOf
-  runs-here l = ap (λ (d : List ℕ). runsOf d l) here
+  pub runs-here : (l : List ℕ) → rangesOf (drop (k * 2) bounds) l
+      ≡ take (getD bounds (k * 2 + 1) 0 - getD bounds (k * 2) 0) (drop (getD bounds (k * 2) 0) l) ++ rangesOf (drop ((k + 1) * 2) bounds) l
+  unfolding rangesOf
+  runs-here l = ap (λ (d : List ℕ). rangesOf d l) here
 
-  pub put-here : (bits l : List ℕ) → putRuns (drop (k * 2) bounds) bits l
-      ≡ putRuns (drop ((k + 1) * 2) bounds) (drop (getD bounds (k * 2 + 1) 0 - getD bounds (k * 2) 0) bits) (paste l (getD bounds (k * 2) 0) bits (getD bounds (k * 2 + 1) 0 - getD bounds (k * 2) 0))
-  unfolding putRuns
-  put-here bits l = ap (λ (d : List ℕ). putRuns d bits l) here
+  pub put-here : (bits l : List ℕ) → putRanges (drop (k * 2) bounds) bits l
+      ≡ putRanges (drop ((k + 1) * 2) bounds) (drop (getD bounds (k * 2 + 1) 0 - getD bounds (k * 2) 0) bits) (paste l (getD bounds (k * 2) 0) bits (getD bounds (k * 2 + 1) 0 - getD bounds (k * 2) 0))
+  unfolding putRanges
+  put-here bits l = ap (λ (d : List ℕ). putRanges d bits l) here
 
 -- no run is left
 past : (bounds : List ℕ) {n : ℕ} → Bounds bounds n → (k : ℕ) → k ≤ length bounds / 2 → length bounds / 2 ≤ k → drop (k * 2) bounds ≡ []
@@ -74,7 +74,7 @@ pub record Taking (bounds list out : List ℕ) (at k : ℕ) : Type 0 where
   pub low : k ≤ length bounds / 2
   pub size : length out ≡ totalOf bounds
   pub left : at + totalOf (drop (k * 2) bounds) ≡ totalOf bounds
-  pub rest : take at out ++ runsOf (drop (k * 2) bounds) list ≡ runsOf bounds list
+  pub rest : take at out ++ rangesOf (drop (k * 2) bounds) list ≡ rangesOf bounds list
 
 pub taking-none : {bounds list out : List ℕ} → length out ≡ totalOf bounds → Taking bounds list out 0 0
 taking-none {bounds} e = record { low = omega arith; size = e; left = zero-add (totalOf bounds); rest = refl }
@@ -96,25 +96,25 @@ module _ {bounds list out : List ℕ} {at k : ℕ} (t : Taking bounds list out a
         size = ap length e ∙ length-paste out at (drop a list) n room read ∙ t .size;
         left = omega (arith, t .left, total-here bounds b k h);
         rest =
-            ap (λ (l : List ℕ). take (at + n) l ++ runsOf (drop ((k + 1) * 2) bounds) list) e
-            ∙ ap (λ (l : List ℕ). l ++ runsOf (drop ((k + 1) * 2) bounds) list) (take-paste out at (drop a list) n (omega arith) read)
-            ∙ append-assoc (take at out) (take n (drop a list)) (runsOf (drop ((k + 1) * 2) bounds) list)
+            ap (λ (l : List ℕ). take (at + n) l ++ rangesOf (drop ((k + 1) * 2) bounds) list) e
+            ∙ ap (λ (l : List ℕ). l ++ rangesOf (drop ((k + 1) * 2) bounds) list) (take-paste out at (drop a list) n (omega arith) read)
+            ∙ append-assoc (take at out) (take n (drop a list)) (rangesOf (drop ((k + 1) * 2) bounds) list)
             ∙ ap (λ (l : List ℕ). take at out ++ l) (sym (runs-here bounds b k h list)) ∙ t .rest;
       }
 
-  pub taking-done : length bounds / 2 ≤ k → out ≡ runsOf bounds list
-  unfolding runsOf totalOf
+  pub taking-done : length bounds / 2 ≤ k → out ≡ rangesOf bounds list
+  unfolding rangesOf totalOf
   taking-done h =
       let none : drop (k * 2) bounds ≡ [] = past bounds b k (t .low) h in
       let all : length out ≤ at = omega (arith, t .left, ap totalOf none, t .size) in
-      sym (take-all at out all) ∙ sym (append-nil (take at out)) ∙ ap (λ (d : List ℕ). take at out ++ runsOf d list) (sym none) ∙ t .rest
+      sym (take-all at out all) ∙ sym (append-nil (take at out)) ∙ ap (λ (d : List ℕ). take at out ++ rangesOf d list) (sym none) ∙ t .rest
 
 -- ---- bits put into the runs of a list: into k of them
 pub record Putting (bounds bits list₀ list : List ℕ) (at k : ℕ) : Type 0 where
   pub low : k ≤ length bounds / 2
   pub size : length list ≡ length list₀
   pub left : at + totalOf (drop (k * 2) bounds) ≡ totalOf bounds
-  pub rest : putRuns (drop (k * 2) bounds) (drop at bits) list ≡ putRuns bounds bits list₀
+  pub rest : putRanges (drop (k * 2) bounds) (drop at bits) list ≡ putRanges bounds bits list₀
 
 pub putting-none : {bounds bits list : List ℕ} → Putting bounds bits list list 0 0
 putting-none {bounds} = record { low = omega arith; size = refl; left = zero-add (totalOf bounds); rest = refl }
@@ -138,10 +138,10 @@ module _ {bounds bits list₀ list : List ℕ} {at k : ℕ} (t : Putting bounds 
         size = ap length e ∙ length-paste list a (drop at bits) n (putting-room h) read ∙ t .size;
         left = omega (arith, t .left, total-here bounds b k h);
         rest =
-            ap₂ (λ (u l : List ℕ). putRuns (drop ((k + 1) * 2) bounds) u l) (sym (drop-drop n at bits)) e
+            ap₂ (λ (u l : List ℕ). putRanges (drop ((k + 1) * 2) bounds) u l) (sym (drop-drop n at bits)) e
             ∙ sym (put-here bounds b k h (drop at bits) list) ∙ t .rest;
       }
 
-  pub putting-done : length bounds / 2 ≤ k → list ≡ putRuns bounds bits list₀
-  unfolding putRuns
-  putting-done h = ap (λ (d : List ℕ). putRuns d (drop at bits) list) (sym (past bounds b k (t .low) h)) ∙ t .rest
+  pub putting-done : length bounds / 2 ≤ k → list ≡ putRanges bounds bits list₀
+  unfolding putRanges
+  putting-done h = ap (λ (d : List ℕ). putRanges d (drop at bits) list) (sym (past bounds b k (t .low) h)) ∙ t .rest

@@ -6,16 +6,16 @@ use Prim.Native.Nat.{ℕ}
 use lib.ListN.{take}
 use Rattle.session.specs.declared.Session.{Session}
 use Rattle.session.specs.Scanning.{seen}
-use Rattle.session.specs.Contracts.{PieceFed, Sound, atStart, viewOf}
+use Rattle.session.specs.Contracts.{PieceFed, SessionFits, atStart, viewOf}
 
 -- the session that some input leaves behind: the pieces read so far
 pub record Reached (s : Session) (line counts : List ℕ) : Type 0 where
   pub input : List ℕ
   pub view : viewOf s line counts ≡ seen atStart input
-  pub sound : Sound s line counts
+  pub fits : SessionFits s line counts
 
 -- a turn answers the n bytes that it read
-pub record Turned (s : Session) (piece line line′ counts counts′ out out′ : List ℕ) (r : Session) : Type 0 where
+pub record PieceAnswered (s : Session) (piece line line′ counts counts′ out out′ : List ℕ) (r : Session) : Type 0 where
   pub n : ℕ
   pub end : ℕ
   pub fed : PieceFed s (take n piece) line line′ counts counts′ out out′ (record { session = r; at = end })
