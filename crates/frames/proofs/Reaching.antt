@@ -9,7 +9,7 @@ use Rattle.session.specs.declared.Fed.{Fed}
 use Rattle.session.specs.declared.Session.{Session}
 use Rattle.session.specs.Output.{fresh}
 use Rattle.session.specs.Totals.{nothingAdded}
-use Rattle.session.specs.Scanning.{Scan, seen, allSaid}
+use Rattle.session.specs.Scanning.{Scan, seen, bytesSaid}
 use Rattle.session.specs.Contracts.{PieceFed, atStart, begun, viewOf}
 use Rattle.session.proofs.Whole.{seen-then}
 use Rattle.frames.specs.Pieces.{Reached, PieceAnswered}
@@ -48,5 +48,5 @@ module _ {s : Session} {line counts : List ℕ} (r : Reached s line counts) wher
 
   -- nothing was read
   pub nothing-answered : (piece out : List ℕ) → PieceAnswered s piece line line counts counts out out s
-  unfolding seen allSaid
+  unfolding seen bytesSaid
   nothing-answered piece out = record { n = 0; end = 0; fed = record { view = refl; text = put-nothing out 0; room = omega arith; fits = r .fits } }

@@ -18,7 +18,7 @@ use Rattle.session.specs.Replies.{replyTo}
 use Rattle.session.specs.Scanning.{ended, endSaid}
 use Rattle.session.specs.Contracts.{LineEnded, WithinBounds, SessionFits, viewOf}
 
--- ---- totals stay bounds
+-- ---- totals stay within bounds
 each-set : (l : List ℕ) (d v k m : ℕ) → getD l k 0 ≤ m → v ≤ m → getD (set l d v) k 0 ≤ m
 each-set [] d v k m h e = h
 each-set (x ∷ l) zero v zero m h e = e

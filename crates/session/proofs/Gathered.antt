@@ -13,7 +13,7 @@ use Rattle.text.specs.Writing.{Put}
 use Rattle.text.proofs.Stored.{put-then}
 use Rattle.text.specs.Lines.{LineEnd}
 use Rattle.session.specs.Output.{State}
-use Rattle.session.specs.Scanning.{Scan, grown, byteSeen, byteSaid, seen, allSaid}
+use Rattle.session.specs.Scanning.{Scan, grown, byteSeen, byteSaid, seen, bytesSaid}
 use Rattle.session.specs.Contracts.{Kept, partOf}
 use Rattle.session.proofs.Whole.{scan, take-grown}
 
@@ -37,12 +37,12 @@ module _ (k : ℕ) (s : State) where
       ap (λ (c : Scan). seen c bs) (byte-grows q b (p 0 (omega arith)))
       ∙ plain-seen bs (q ++ (b ∷ [])) (λ i h. p (suc i) (omega arith)) ∙ ap (scan k s) (append-snoc q b bs)
 
-  pub plain-said : (ps q : List ℕ) → Plain ps → allSaid (scan k s q) ps ≡ []
-  unfolding allSaid
+  pub plain-said : (ps q : List ℕ) → Plain ps → bytesSaid (scan k s q) ps ≡ []
+  unfolding bytesSaid
   plain-said [] q p = refl
   plain-said (b ∷ bs) q p =
-      ap (λ (l : List ℕ). l ++ allSaid (byteSeen (scan k s q) b) bs) (byte-silent q b (p 0 (omega arith)))
-      ∙ ap (λ (c : Scan). allSaid c bs) (byte-grows q b (p 0 (omega arith))) ∙ plain-said bs (q ++ (b ∷ [])) (λ i h. p (suc i) (omega arith))
+      ap (λ (l : List ℕ). l ++ bytesSaid (byteSeen (scan k s q) b) bs) (byte-silent q b (p 0 (omega arith)))
+      ∙ ap (λ (c : Scan). bytesSaid c bs) (byte-grows q b (p 0 (omega arith))) ∙ plain-said bs (q ++ (b ∷ [])) (λ i h. p (suc i) (omega arith))
 
 -- ---- a part of a piece
 module _ {piece : List ℕ} {from end : ℕ} (e : LineEnd piece from end) where

@@ -11,9 +11,9 @@ use Rattle.text.specs.Lines.{LineEnd}
 use Rattle.session.specs.declared.Fed.{Fed}
 use Rattle.session.specs.declared.Session.{Session}
 use Rattle.session.specs.Output.{State}
-use Rattle.session.specs.Scanning.{Scan, ended, endSaid, byteSeen, byteSaid, seen, allSaid}
+use Rattle.session.specs.Scanning.{Scan, ended, endSaid, byteSeen, byteSaid, seen, bytesSaid}
 use Rattle.session.specs.Contracts.{Kept, LineEnded, PartFed, PieceFed, SessionFits, partOf, viewOf}
-use Rattle.session.proofs.Whole.{scan, seen-then, all-said-then}
+use Rattle.session.proofs.Whole.{scan, seen-then, bytes-said-then}
 use Rattle.session.proofs.Gathered.{plain-seen, plain-said, inner-plain, part-ended, part-open, part-then}
 
 -- ---- a part of a piece
@@ -45,16 +45,16 @@ module _ {piece : List ℕ} {from end : ℕ} (e : LineEnd piece from end) (s : S
       ap (λ (c : Scan). seen c (take (end - from) (drop from piece))) (as-scan s line counts h)
       ∙ plain-seen (s .left) (stateOf s line counts) (take (end - from) (drop from piece)) (take (s .len) line) (inner-plain e) ∙ sym (kept-view s line counts k)
 
-  inner-heard : allSaid (viewOf s line counts) (take (end - from) (drop from piece)) ≡ []
+  inner-heard : bytesSaid (viewOf s line counts) (take (end - from) (drop from piece)) ≡ []
   inner-heard =
-      ap (λ (c : Scan). allSaid c (take (end - from) (drop from piece))) (as-scan s line counts h)
+      ap (λ (c : Scan). bytesSaid c (take (end - from) (drop from piece))) (as-scan s line counts h)
       ∙ plain-said (s .left) (stateOf s line counts) (take (end - from) (drop from piece)) (take (s .len) line) (inner-plain e)
 
   pub part-waits : (out : List ℕ) (at : ℕ) → length piece ≤ end → PartFed s piece from end line line′ counts counts out out at (record { session = holding s len; at = at })
   part-waits out at b =
       record {
         view = sym (ap (seen (viewOf s line counts)) (part-open e b) ∙ inner-seen);
-        text = subst (λ (l : List ℕ). Put out at l out at) (sym (ap (allSaid (viewOf s line counts)) (part-open e b) ∙ inner-heard)) (put-nothing out at);
+        text = subst (λ (l : List ℕ). Put out at l out at) (sym (ap (bytesSaid (viewOf s line counts)) (part-open e b) ∙ inner-heard)) (put-nothing out at);
         room = omega arith;
         fits = kept-fits s line counts k h;
       }
@@ -63,8 +63,8 @@ module _ {piece : List ℕ} {from end : ℕ} (e : LineEnd piece from end) (s : S
   unfolding seen byteSeen
   lf-seen c = refl
 
-  lf-heard : (c : Scan) → allSaid c (10 ∷ []) ≡ endSaid c
-  unfolding allSaid byteSaid
+  lf-heard : (c : Scan) → bytesSaid c (10 ∷ []) ≡ endSaid c
+  unfolding bytesSaid byteSaid
   lf-heard c = append-nil (endSaid c)
 
   pub part-ends : {counts′ out out′ : List ℕ} {at : ℕ} (r : Fed) → end < length piece → LineEnded (holding s len) line′ counts counts′ out out′ at r
@@ -78,9 +78,9 @@ module _ {piece : List ℕ} {from end : ℕ} (e : LineEnd piece from end) (s : S
             ∙ ap (λ (c : Scan). seen c (10 ∷ [])) inner-seen ∙ lf-seen (viewOf (holding s len) line′ counts));
         text =
             subst (λ (l : List ℕ). Put out at l out′ (r .at))
-            (sym (ap (allSaid (viewOf s line counts)) (part-ended e b) ∙ all-said-then inner (10 ∷ []) (viewOf s line counts)
-            ∙ ap (λ (l : List ℕ). l ++ allSaid (seen (viewOf s line counts) inner) (10 ∷ [])) inner-heard
-            ∙ ap (λ (c : Scan). allSaid c (10 ∷ [])) inner-seen ∙ lf-heard (viewOf (holding s len) line′ counts)))
+            (sym (ap (bytesSaid (viewOf s line counts)) (part-ended e b) ∙ bytes-said-then inner (10 ∷ []) (viewOf s line counts)
+            ∙ ap (λ (l : List ℕ). l ++ bytesSaid (seen (viewOf s line counts) inner) (10 ∷ [])) inner-heard
+            ∙ ap (λ (c : Scan). bytesSaid c (10 ∷ [])) inner-seen ∙ lf-heard (viewOf (holding s len) line′ counts)))
             (p .text);
         room = p .room;
         fits = p .fits;
@@ -92,7 +92,7 @@ pub record Feeding (s : Session) (piece line counts out : List ℕ) (i : ℕ) (l
 
 module _ {s : Session} {piece line counts out : List ℕ} where
   pub feeding-none : SessionFits s line counts → Feeding s piece line counts out 0 line counts out (record { session = s; at = 0 })
-  unfolding seen allSaid
+  unfolding seen bytesSaid
   feeding-none h = record { fed = record { view = refl; text = put-nothing out 0; room = omega arith; fits = h } }
 
   module _ {i : ℕ} {line′ counts′ out′ : List ℕ} {r : Fed} (f : Feeding s piece line counts out i line′ counts′ out′ r) where
@@ -108,7 +108,7 @@ module _ {s : Session} {piece line counts out : List ℕ} where
                 view = p .view ∙ ap (λ (x : Scan). seen x part) v ∙ sym (ap (seen c) (part-then e) ∙ seen-then (take i piece) part c);
                 text =
                     subst (λ (l : List ℕ). Put out 0 l out″ (q .at))
-                    (ap (λ (x : Scan). allSaid c (take i piece) ++ allSaid x part) v ∙ sym (ap (allSaid c) (part-then e) ∙ all-said-then (take i piece) part c))
+                    (ap (λ (x : Scan). bytesSaid c (take i piece) ++ bytesSaid x part) v ∙ sym (ap (bytesSaid c) (part-then e) ∙ bytes-said-then (take i piece) part c))
                     (put-then (f .fed .text) (p .text));
                 room = omega (arith, f .fed .room, p .room, length-take i piece, length-take (end + 1) piece, e .low);
                 fits = p .fits;

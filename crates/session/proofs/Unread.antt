@@ -7,7 +7,7 @@ use lib.Dec.{eqb}
 use lib.ListN.{length}
 use Rattle.session.specs.Output.{State}
 use Rattle.session.specs.Totals.{closing}
-use Rattle.session.specs.Scanning.{Scan, ended, endSaid, grown, byteSeen, byteSaid, seen, allSaid, closed, closeSaid}
+use Rattle.session.specs.Scanning.{Scan, ended, endSaid, grown, byteSeen, byteSaid, seen, bytesSaid, closed, closeSaid}
 use Rattle.session.specs.Contracts.{endText}
 
 -- a scan with no line left
@@ -38,12 +38,12 @@ seen-full (b ∷ more) s part =
     let r = seen-full more s (q .0) in
     (r .0, ap (λ (c : Scan). seen c more) (q .1) ∙ r .1)
 
-heard-full : (more : List ℕ) (s : State) (part : List ℕ) → allSaid (full s part) more ≡ []
-unfolding allSaid
+heard-full : (more : List ℕ) (s : State) (part : List ℕ) → bytesSaid (full s part) more ≡ []
+unfolding bytesSaid
 heard-full [] s part = refl
 heard-full (b ∷ more) s part =
     let q = byte-full s part b in
-    ap (λ (l : List ℕ). l ++ allSaid (byteSeen (full s part) b) more) (byte-silent s part b) ∙ ap (λ (c : Scan). allSaid c more) (q .1) ∙ heard-full more s (q .0)
+    ap (λ (l : List ℕ). l ++ bytesSaid (byteSeen (full s part) b) more) (byte-silent s part b) ∙ ap (λ (c : Scan). bytesSaid c more) (q .1) ∙ heard-full more s (q .0)
 
 closed-full : (s : State) (part : List ℕ) → closed (full s part) ≡ s
 unfolding closed ended
@@ -67,11 +67,11 @@ end-full s part =
     ap (λ (l : List ℕ). l ++ closing (closed (full s part) .tally) (closed (full s part) .counts)) (close-silent s part)
     ∙ ap (λ (x : State). closing (x .tally) (x .counts)) (closed-full s part)
 
-pub unread : (c : Scan) (more : List ℕ) → c .left ≡ 0 → allSaid c more ++ endText (seen c more) ≡ endText c
+pub unread : (c : Scan) (more : List ℕ) → c .left ≡ 0 → bytesSaid c more ++ endText (seen c more) ≡ endText c
 unread c more e =
     let s : State = c .state in
     let f : c ≡ full s (c .part) = ap (λ (n : ℕ). record { left = n; state = s; part = c .part }) e in
     let r = seen-full more s (c .part) in
-    ap (λ (x : Scan). allSaid x more ++ endText (seen x more)) f
+    ap (λ (x : Scan). bytesSaid x more ++ endText (seen x more)) f
     ∙ ap (λ (l : List ℕ). l ++ endText (seen (full s (c .part)) more)) (heard-full more s (c .part))
     ∙ ap endText (r .1) ∙ end-full s (r .0) ∙ sym (ap endText f ∙ end-full s (c .part))

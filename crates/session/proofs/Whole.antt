@@ -9,7 +9,7 @@ use lib.ListN.{length, take}
 use lib.Seq.{take-nil}
 use Rattle.session.specs.Output.{State, next, said, after, spoken, linesFrom, linesOf, fresh, output}
 use Rattle.session.specs.Totals.{closing}
-use Rattle.session.specs.Scanning.{Scan, ended, endSaid, grown, byteSeen, byteSaid, seen, allSaid, closed, closeSaid}
+use Rattle.session.specs.Scanning.{Scan, ended, endSaid, grown, byteSeen, byteSaid, seen, bytesSaid, closed, closeSaid}
 use Rattle.session.specs.Contracts.{atStart, endText}
 use Rattle.session.proofs.Cut.{next-cut, said-cut}
 
@@ -19,12 +19,12 @@ unfolding seen
 seen-then [] ys c = refl
 seen-then (x ∷ xs) ys c = seen-then xs ys (byteSeen c x)
 
-pub all-said-then : (xs ys : List ℕ) (c : Scan) → allSaid c (xs ++ ys) ≡ allSaid c xs ++ allSaid (seen c xs) ys
-unfolding seen allSaid
-all-said-then [] ys c = refl
-all-said-then (x ∷ xs) ys c =
-    ap (λ (r : List ℕ). byteSaid c x ++ r) (all-said-then xs ys (byteSeen c x))
-    ∙ sym (append-assoc (byteSaid c x) (allSaid (byteSeen c x) xs) (allSaid (seen (byteSeen c x) xs) ys))
+pub bytes-said-then : (xs ys : List ℕ) (c : Scan) → bytesSaid c (xs ++ ys) ≡ bytesSaid c xs ++ bytesSaid (seen c xs) ys
+unfolding seen bytesSaid
+bytes-said-then [] ys c = refl
+bytes-said-then (x ∷ xs) ys c =
+    ap (λ (r : List ℕ). byteSaid c x ++ r) (bytes-said-then xs ys (byteSeen c x))
+    ∙ sym (append-assoc (byteSaid c x) (bytesSaid (byteSeen c x) xs) (bytesSaid (seen (byteSeen c x) xs) ys))
 
 -- ---- a line so far, cut to 137 characters
 pub take-grown : (n : ℕ) (l : List ℕ) (b : ℕ) → take n (take n l ++ (b ∷ [])) ≡ take n (l ++ (b ∷ []))
@@ -97,7 +97,7 @@ last-state (suc k) s (p ∷ part) =
 
 -- ---- one byte more, the rest being right for every scan
 abbrev allSaid : Scan → List ℕ → List ℕ
-allSaid c input = allSaid c input ++ closeSaid (seen c input)
+allSaid c input = bytesSaid c input ++ closeSaid (seen c input)
 
 abbrev endState : Scan → List ℕ → State
 endState c input = closed (seen c input)
@@ -122,13 +122,13 @@ said-byte true rest ih k s part b = said-end rest ih k s part
 said-byte false rest ih k s part b = ih k s (part ++ (b ∷ [])) ∙ ap (λ (c : Scan). allSaid c rest) (sym (grown-cut k s part b))
 
 whole-said : (input : List ℕ) → SaidRight input
-unfolding linesFrom allSaid seen byteSeen byteSaid
+unfolding linesFrom bytesSaid seen byteSeen byteSaid
 whole-said [] k s part = last-said k s part
 whole-said (b ∷ rest) k s part =
     let c : Scan = scan k s part in
     let d : Scan = byteSeen c b in
     said-byte (eqb b 10) rest (whole-said rest) k s part b
-    ∙ sym (append-assoc (byteSaid c b) (allSaid d rest) (closeSaid (seen d rest)))
+    ∙ sym (append-assoc (byteSaid c b) (bytesSaid d rest) (closeSaid (seen d rest)))
 
 abbrev StateRight : List ℕ → Type 0
 StateRight rest = (k : ℕ) (s : State) (part : List ℕ) → after s (take k (linesFrom part rest)) ≡ endState (scan k s part) rest
@@ -151,10 +151,10 @@ whole-state [] k s part = last-state k s part
 whole-state (b ∷ rest) k s part = state-byte (eqb b 10) rest (whole-state rest) k s part b
 
 -- ---- THE LAW OF THE PROGRAM: what `feed` writes of an input, however it is cut into pieces, and `finish` after it, is the output of the definition
-pub whole : (input : List ℕ) → output input ≡ allSaid atStart input ++ endText (seen atStart input)
+pub whole : (input : List ℕ) → output input ≡ bytesSaid atStart input ++ endText (seen atStart input)
 unfolding output linesOf endText atStart
 whole input =
     ap (λ (x : List ℕ). x ++ closing (after fresh (take 1000000 (linesOf input)) .tally) (after fresh (take 1000000 (linesOf input)) .counts))
     (whole-said input 1000000 fresh [])
-    ∙ ap (λ (x : State). (allSaid atStart input ++ closeSaid (seen atStart input)) ++ closing (x .tally) (x .counts)) (whole-state input 1000000 fresh [])
-    ∙ append-assoc (allSaid atStart input) (closeSaid (seen atStart input)) (closing (closed (seen atStart input) .tally) (closed (seen atStart input) .counts))
+    ∙ ap (λ (x : State). (bytesSaid atStart input ++ closeSaid (seen atStart input)) ++ closing (x .tally) (x .counts)) (whole-state input 1000000 fresh [])
+    ∙ append-assoc (bytesSaid atStart input) (closeSaid (seen atStart input)) (closing (closed (seen atStart input) .tally) (closed (seen atStart input) .counts))

@@ -9,7 +9,7 @@ use Rattle.session.specs.declared.Session.{Session}
 use Rattle.session.specs.Totals.{closing}
 use Rattle.session.specs.declared.totals.Tally.{Tally}
 use Rattle.session.specs.Output.{fresh}
-use Rattle.session.specs.Scanning.{Scan, ended, endSaid, seen, allSaid, closed, closeSaid}
+use Rattle.session.specs.Scanning.{Scan, ended, endSaid, seen, bytesSaid, closed, closeSaid}
 
 -- ---- a session as a scan: `line` holds the line so far, `counts` the words of each code
 unfoldable pub viewOf : Session → List ℕ → List ℕ → Scan
@@ -56,14 +56,14 @@ partOf piece from end = take (end + 1 - from) (drop from piece)
 
 pub record PartFed (s : Session) (piece : List ℕ) (from end : ℕ) (line line′ counts counts′ out out′ : List ℕ) (at : ℕ) (r : Fed) : Type 0 where
   pub view : viewOf (r .session) line′ counts′ ≡ seen (viewOf s line counts) (partOf piece from end)
-  pub text : Put out at (allSaid (viewOf s line counts) (partOf piece from end)) out′ (r .at)
+  pub text : Put out at (bytesSaid (viewOf s line counts) (partOf piece from end)) out′ (r .at)
   pub room : r .at ≤ at + 25
   pub fits : SessionFits (r .session) line′ counts′
 
 -- a piece of the input
 pub record PieceFed (s : Session) (piece line line′ counts counts′ out out′ : List ℕ) (r : Fed) : Type 0 where
   pub view : viewOf (r .session) line′ counts′ ≡ seen (viewOf s line counts) piece
-  pub text : Put out 0 (allSaid (viewOf s line counts) piece) out′ (r .at)
+  pub text : Put out 0 (bytesSaid (viewOf s line counts) piece) out′ (r .at)
   pub room : r .at ≤ 25 * length piece
   pub fits : SessionFits (r .session) line′ counts′
 

@@ -35,9 +35,9 @@ unfoldable pub seen : Scan → List ℕ → Scan
 seen c [] = c
 seen c (b ∷ bs) = seen (byteSeen c b) bs
 
-unfoldable pub allSaid : Scan → List ℕ → List ℕ
-allSaid c [] = []
-allSaid c (b ∷ bs) = byteSaid c b ++ allSaid (byteSeen c b) bs
+unfoldable pub bytesSaid : Scan → List ℕ → List ℕ
+bytesSaid c [] = []
+bytesSaid c (b ∷ bs) = byteSaid c b ++ bytesSaid (byteSeen c b) bs
 
 -- the input is at its end: a line so far that is not empty counts
 unfoldable pub closed : Scan → State

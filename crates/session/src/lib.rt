@@ -56,7 +56,7 @@ pub fn end_line(session: Session, line: &[u8], counts: &mut [u32], out: &mut [u8
     }
     let replied = reply_to(receiver, &line[..len]);
     let reply = replied.reply;
-    let allSaid = replied.receiver;
+    let moved = replied.receiver;
     let more = added(reply);
     count(counts, replied.dvcc, more.words);
     let next = put_reply(out, at, reply);
@@ -65,14 +65,14 @@ pub fn end_line(session: Session, line: &[u8], counts: &mut [u32], out: &mut [u8
         session: Session {
             left: left - 1,
             len: 0,
-            receiver: allSaid,
+            receiver: moved,
             tally: total,
         },
         at: next,
     }
 }
 
-// Before the input: nothing allSaid, nothing counted, a million lines to read.
+// Before the input: nothing heard, nothing counted, a million lines to read.
 pub fn start() -> Session
     ensures { λ r. ⌜ r ≡ begun ⌝ }
 {
