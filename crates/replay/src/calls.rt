@@ -1,66 +1,210 @@
-// Which kind of call a line is, and whether its answer is the proved crate's.
-use checksums::CrcMode;
-use replay_coding::acelp_agrees;
-use replay_coding::checksum7_agrees;
-use replay_coding::dcch_agrees;
-use replay_coding::facch_agrees;
-use replay_coding::has_checksum;
-use replay_coding::viterbi_agrees;
-use replay_dcch::decode_line;
-use replay_dcch::decode_soft_line;
-use replay_dcch::encode_line;
+// Makes the slices of a line, lends them to its call and prints the answer.
+use crate::answers::Answer;
+use crate::answers::done;
+use crate::answers::is_known;
+use crate::answers::print;
+use crate::answers::room;
+use crate::answers::unknown;
+use crate::answers::untouched;
+use crate::arguments::Given;
+use crate::arguments::find;
+use crate::arguments::read;
+use crate::dcch_blocks;
+use crate::facch_words;
+use crate::sacch_words;
+use crate::speech_frames;
+use crate::steps;
 use text::has_shape;
-use text::two;
-ghost use mathlib.Core.Path.{_≡_};
-ghost use mathlib.Core.Bool.{true};
-ghost use Prim.Native.Nat.{_*_, _≤_};
+ghost use Prim.Native.Nat.{_≤_};
 ghost use lib.ListN.{length};
-ghost use Rattle.replay.specs.Calls.{Agreed};
 
-// `c a DD VVVV BITS` or `c b DD VVVV BITS`: a checksum of 16 bits, in the mode of the letter.
-fn checksum_agrees(line: &[u8]) -> bool
-    requires { ⌜ length (now line) ≤ 600 ⌝ }
-    ensures { λ r. ⌜ (r ≡ true → Agreed (now (line .entry))) ⌝ }
-{
-    if line.len() < 12 {
-        return false;
-    }
-    // Where a byte is no digit the number may be above 255, and the shape fails below.
-    let dvcc = two(line[4], line[5]);
-    if 255 < dvcc {
-        return false;
-    }
-    let expected = two(line[7], line[8]) * 256 + two(line[9], line[10]);
-    if has_shape(b"c a ## #### ", &line[..12]) {
-        return has_checksum(&line[12..], dvcc as u8, CrcMode::Addressed, expected);
-    }
-    if has_shape(b"c b ## #### ", &line[..12]) {
-        return has_checksum(&line[12..], dvcc as u8, CrcMode::Broadcast, expected);
-    }
-    false
+// What came of a turn of a line.
+pub struct Outcome {
+    pub answer: Answer,
+    pub untouched: bool,
+    // In how many turns the line is called; 0 where once, and then the answer is printed.
+    pub turns: usize,
 }
 
-// Whether a line is a call with the proved crate's answer. A line of no known form is none.
-pub fn agrees(line: &[u8]) -> bool
-    ensures { λ r. ⌜ (r ≡ true → Agreed (now (line .entry))) ⌝ }
+fn speech(
+    module: &[u8],
+    call: &[u8],
+    given: Given,
+    numbers: &[u64],
+    first: &[u8],
+    second: &[u8],
+    room: &mut [u8],
+    other: &mut [u8],
+) -> Answer {
+    if has_shape(b"speech", module) {
+        return speech_frames::vselp(call, given, first, second, room, other);
+    }
+    if has_shape(b"acelp_cc1", module) {
+        return speech_frames::acelp(call, given, numbers, first, room);
+    }
+    unknown()
+}
+
+fn run(
+    module: &[u8],
+    call: &[u8],
+    given: Given,
+    numbers: &[u64],
+    first: &[u8],
+    second: &[u8],
+    room: &mut [u8],
+    other: &mut [u8],
+) -> Answer
+    requires { ⌜ length (now first) ≤ 800 ⌝ }
 {
-    if line.len() < 5 {
-        return false;
+    if has_shape(b"step", module) {
+        return steps::step(call, given, numbers);
     }
-    if 600 < line.len() {
-        return false;
+    if has_shape(b"coding", module) {
+        return steps::run(call, given, numbers, first, room);
     }
-    let kind = line[0];
-    match kind {
-        b'a' => acelp_agrees(line),
-        b'c' => checksum_agrees(line),
-        b'd' => dcch_agrees(line),
-        b'e' => encode_line(line),
-        b'f' => facch_agrees(line),
-        b'h' => decode_line(line),
-        b'p' => decode_soft_line(line),
-        b's' => checksum7_agrees(line),
-        b'v' => viterbi_agrees(line),
-        _ => false,
+    if has_shape(b"dcch", module) {
+        return dcch_blocks::run(call, given, numbers, first, room);
     }
+    if has_shape(b"facch", module) {
+        if given.inputs == 2 {
+            return facch_words::slots(call, given, first, second, room);
+        }
+        return facch_words::run(call, given, numbers, first, room);
+    }
+    if has_shape(b"sacch", module) {
+        return sacch_words::run(call, given, numbers, first);
+    }
+    speech(module, call, given, numbers, first, second, room, other)
+}
+
+// No slice is longer.
+fn at_most(n: usize) -> usize
+    ensures { λ r. ⌜ r ≤ 800 ⌝ }
+{
+    if n < 800 { n } else { 800 }
+}
+
+fn show(answer: Answer, given: Given, one: &[u8], two: &[u8])
+    requires { ⌜ (length (now one) ≤ 800) × (length (now two) ≤ 800) ⌝ }
+{
+    if !is_known(answer) {
+        return;
+    }
+    print(answer);
+    if 0 < given.rooms {
+        room(one);
+    }
+    if 1 < given.rooms {
+        room(two);
+    }
+}
+
+fn told(
+    module: &[u8],
+    call: &[u8],
+    given: Given,
+    numbers: &[u64],
+    first: &[u8],
+    second: &[u8],
+    one: &mut [u8],
+    two: &mut [u8],
+) -> Outcome
+    requires { ⌜ (length (now first) ≤ 800) × (length (now one) ≤ 800) × (length (now two) ≤ 800) ⌝ }
+{
+    let answer = run(module, call, given, numbers, first, second, one, two);
+    if given.turns == 0 {
+        show(answer, given, one, two);
+    }
+    Outcome {
+        answer,
+        untouched: bits::both(untouched(one), untouched(two)),
+        turns: given.turns,
+    }
+}
+
+fn lend(
+    module: &[u8],
+    call: &[u8],
+    given: Given,
+    numbers: &[u64],
+    first: &[u8],
+    second: &[u8],
+) -> Outcome
+    requires { ⌜ length (now first) ≤ 800 ⌝ }
+{
+    let mut one = [9u8; 800];
+    let mut two = [9u8; 800];
+    let n = at_most(given.first_room);
+    let m = at_most(given.second_room);
+    told(
+        module,
+        call,
+        given,
+        numbers,
+        first,
+        second,
+        &mut one[..n],
+        &mut two[..m],
+    )
+}
+
+fn printed(answer: Answer) -> Outcome {
+    Outcome {
+        answer,
+        untouched: false,
+        turns: 0,
+    }
+}
+
+// A call of SACCH without slices is one over a record.
+fn call_with(
+    module: &[u8],
+    call: &[u8],
+    given: Given,
+    numbers: &[u64],
+    first: &[u8],
+    second: &[u8],
+) -> Outcome
+    requires { ⌜ length (now first) ≤ 800 ⌝ }
+{
+    if !given.well_formed {
+        return printed(unknown());
+    }
+    if has_shape(b"sacch", module) {
+        if sacch_words::over_record(call, given, numbers) {
+            return printed(done());
+        }
+    }
+    lend(module, call, given, numbers, first, second)
+}
+
+fn read_and_call(module: &[u8], call: &[u8], arguments: &[u8], turn: usize) -> Outcome {
+    let mut numbers = [0u64; 32];
+    let mut first = [0u8; 800];
+    let mut second = [0u8; 800];
+    let given = read(arguments, turn, &mut numbers, &mut first, &mut second);
+    let n = at_most(given.first_input);
+    let m = at_most(given.second_input);
+    call_with(module, call, given, &numbers, &first[..n], &second[..m])
+}
+
+// The place after a space, or the end.
+fn after(line: &[u8], space: usize) -> usize
+    ensures { λ r. ⌜ r ≤ length (now (line .entry)) ⌝ }
+{
+    if space < line.len() {
+        space + 1
+    } else {
+        line.len()
+    }
+}
+
+// A turn of a line `MODULE CALL ARGUMENTS`.
+pub fn turn(line: &[u8], turn: usize) -> Outcome {
+    let end = find(line, 0, b' ');
+    let start = after(line, end);
+    let stop = find(line, start, b' ');
+    let rest = after(line, stop);
+    read_and_call(&line[..end], &line[start..stop], &line[rest..], turn)
 }
