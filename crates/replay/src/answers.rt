@@ -194,7 +194,7 @@ pub fn room(bytes: &[u8])
     characters(bytes, &mut out);
     let n = bytes.len();
     write(b" ");
-    write(&out[..n]);
+    write(&out[0..n]);
 }
 
 // Of the turns of a line, how many were answered, refused by each number, and left the rooms as they were.

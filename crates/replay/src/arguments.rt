@@ -68,12 +68,17 @@ fn with_room(mut given: Given, length: usize) -> Given {
     given
 }
 
-fn with_number(mut given: Given, numbers: &mut [u64], value: u64) -> Given {
-    let at = given.numbers;
-    if at < numbers.len() {
-        numbers[at] = value;
+// Numbers beyond the end are dropped.
+pub fn put_number(numbers: &mut [u64], k: usize, n: u64) {
+    if k < numbers.len() {
+        numbers[k] = n;
     }
-    given.numbers = wrapping_add_usize(at, 1);
+}
+
+fn with_number(mut given: Given, numbers: &mut [u64], value: u64) -> Given {
+    let k = given.numbers;
+    put_number(numbers, k, value);
+    given.numbers = wrapping_add_usize(k, 1);
     given
 }
 

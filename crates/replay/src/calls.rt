@@ -144,8 +144,8 @@ fn lend(
         numbers,
         first,
         second,
-        &mut one[..n],
-        &mut two[..m],
+        &mut one[0..n],
+        &mut two[0..m],
     )
 }
 
@@ -186,7 +186,7 @@ fn read_and_call(module: &[u8], call: &[u8], arguments: &[u8], turn: usize) -> O
     let given = read(arguments, turn, &mut numbers, &mut first, &mut second);
     let n = at_most(given.first_input);
     let m = at_most(given.second_input);
-    call_with(module, call, given, &numbers, &first[..n], &second[..m])
+    call_with(module, call, given, &numbers, &first[0..n], &second[0..m])
 }
 
 // The place after a space, or the end.
@@ -206,5 +206,5 @@ pub fn turn(line: &[u8], turn: usize) -> Outcome {
     let start = after(line, end);
     let stop = find(line, start, b' ');
     let rest = after(line, stop);
-    read_and_call(&line[..end], &line[start..stop], &line[rest..], turn)
+    read_and_call(&line[0..end], &line[start..stop], &line[rest..], turn)
 }

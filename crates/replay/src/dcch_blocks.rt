@@ -89,7 +89,7 @@ fn decode_soft(
     let mut values = [0.0f64; 800];
     reliabilities(bytes, &mut values);
     let n = bytes.len();
-    decoded(dcch::decode_soft(format, &values[..n], dvcc, mode, room))
+    decoded(dcch::decode_soft(format, &values[0..n], dvcc, mode, room))
 }
 
 pub fn run(call: &[u8], given: Given, numbers: &[u64], input: &[u8], room: &mut [u8]) -> Answer

@@ -58,7 +58,7 @@ fn is_comment(line: &[u8]) -> bool {
     if line.len() < 2 {
         return false;
     }
-    has_shape(b"//", &line[..2])
+    has_shape(b"//", &line[0..2])
 }
 
 fn answer_line(line: &[u8]) {
@@ -73,7 +73,7 @@ fn answer_line(line: &[u8]) {
 // The line that is gathered; one that is too long is no call.
 fn end_line(line: &[u8], n: usize) {
     if n <= line.len() {
-        answer_line(&line[..n]);
+        answer_line(&line[0..n]);
     } else {
         write(b"? a line that is too long\n");
     }

@@ -5,6 +5,7 @@ use crate::answers::write;
 use crate::arguments::at;
 use crate::arguments::byte_at;
 use crate::arguments::field_at;
+use crate::arguments::put_number;
 use sacch_encoder::SacchEncoder;
 use sacch_receiver::Lock;
 use sacch_receiver::SacchReceiver;
@@ -67,12 +68,6 @@ pub fn receiver_of(numbers: &[u64], from: usize) -> SacchReceiver {
     }
 }
 
-fn put_one(out: &mut [u64], k: usize, n: u64) {
-    if k < out.len() {
-        out[k] = n;
-    }
-}
-
 fn wide(x: u16) -> u64 {
     x as u64
 }
@@ -80,7 +75,7 @@ fn wide(x: u16) -> u64 {
 // A list of a record from a place on.
 pub fn put(list: &[u16], out: &mut [u64], from: usize) {
     for i in 0..list.len() {
-        put_one(out, wrapping_add_usize(from, i), wide(list[i]));
+        put_number(out, wrapping_add_usize(from, i), wide(list[i]));
     }
 }
 

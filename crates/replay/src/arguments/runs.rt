@@ -66,7 +66,12 @@ fn in_turn(digits: &[u8], k: usize) -> u8 {
     if n == 0 {
         return 0;
     }
-    digit(digits[k % n])
+    let at = k % n;
+    if at < digits.len() {
+        digit(digits[at])
+    } else {
+        0
+    }
 }
 
 fn repeat(digits: &[u8], count: usize, out: &mut [u8], from: usize) {
@@ -98,7 +103,7 @@ fn repeated(run: &[u8], out: &mut [u8], filled: Filled) -> Filled {
     let cross = find(run, 0, b'x');
     if cross < run.len() {
         let digits = cross + 1;
-        let count = number(&run[..cross], true) as usize;
+        let count = number(&run[0..cross], true) as usize;
         return times(&run[digits..], count, out, filled);
     }
     times(run, run.len(), out, filled)
@@ -109,7 +114,7 @@ fn swept(run: &[u8], at: usize, turn: usize, out: &mut [u8], filled: Filled) -> 
     requires { ⌜ at ≤ length (now run) ⌝ }
 {
     let from = filled.length;
-    let mut all = repeated(&run[..at], out, filled);
+    let mut all = repeated(&run[0..at], out, filled);
     // The @ itself counts as a zero in front.
     let byte = number(&run[at..], false) % 16;
     put(out, wrapping_add_usize(from, turn), byte as u8);
