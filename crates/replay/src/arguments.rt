@@ -6,6 +6,7 @@ use runs::expand;
 pub use runs::find;
 use runs::is_number;
 use runs::number;
+pub use runs::put;
 use std::num::wrapping_add_usize;
 use text::has_shape;
 

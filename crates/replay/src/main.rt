@@ -16,6 +16,7 @@ use answers::Tally;
 use answers::is_known;
 use answers::print_tally;
 use answers::write;
+use arguments::put;
 use calls::Outcome;
 use calls::turn;
 use libc::STDIN_FILENO;
@@ -85,9 +86,7 @@ fn take_byte(line: &mut [u8], n: usize, byte: u8) -> usize {
         end_line(line, n);
         return 0;
     }
-    if n < line.len() {
-        line[n] = byte;
-    }
+    put(line, n, byte);
     wrapping_add_usize(n, 1)
 }
 

@@ -54,7 +54,7 @@ pub fn is_number(text: &[u8]) -> bool {
 }
 
 // Bytes beyond the end are dropped; the length shows them.
-fn put(out: &mut [u8], at: usize, byte: u8) {
+pub fn put(out: &mut [u8], at: usize, byte: u8) {
     if at < out.len() {
         out[at] = byte;
     }
