@@ -1,16 +1,15 @@
 // DCCH. A line has the format, the colour code and whether it is broadcast.
-use crate::answers::Answer;
-use crate::answers::Kind;
-use crate::answers::one;
-use crate::answers::refused;
-use crate::answers::unknown;
-use crate::answers::wrote;
-use crate::arguments::Given;
-use crate::arguments::asks;
-use crate::arguments::at;
-use crate::arguments::byte_at;
-use crate::arguments::flag_at;
 use bits::wide;
+use calls::answers::Answer;
+use calls::answers::Kind;
+use calls::answers::one;
+use calls::answers::refused;
+use calls::answers::unknown;
+use calls::answers::wrote;
+use calls::arguments::asks;
+use calls::arguments::at;
+use calls::arguments::byte_at;
+use calls::arguments::flag_at;
 use checksums::CrcMode;
 use dcch::Decoded;
 use dcch_interleaver::BlockFormat;
@@ -92,19 +91,19 @@ fn decode_soft(
     decoded(dcch::decode_soft(format, &values[0..n], dvcc, mode, room))
 }
 
-pub fn run(call: &[u8], given: Given, numbers: &[u64], input: &[u8], room: &mut [u8]) -> Answer
+pub fn run(call: &[u8], counts: usize, numbers: &[u64], input: &[u8], room: &mut [u8]) -> Answer
     requires { ⌜ length (now input) ≤ 800 ⌝ }
 {
     let format = format_of(at(numbers, 0));
     let dvcc = byte_at(numbers, 1);
     let mode = flat_coding::mode_of(flag_at(numbers, 2));
-    if asks(b"encode", call, given, 311) {
+    if asks(b"encode", call, counts, 311) {
         return wrote(dcch::encode(format, input, dvcc, mode, room));
     }
-    if asks(b"decode", call, given, 311) {
+    if asks(b"decode", call, counts, 311) {
         return decoded(dcch::decode(format, input, dvcc, mode, room));
     }
-    if asks(b"decode_soft", call, given, 311) {
+    if asks(b"decode_soft", call, counts, 311) {
         return decode_soft(format, input, dvcc, mode, room);
     }
     unknown()

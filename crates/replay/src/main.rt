@@ -1,24 +1,22 @@
 // Answers stored calls, one a line of standard input: `MODULE CALL ARGUMENTS`. Each answer is a line: what the call said, and what became of the rooms that it was
 // lent or of the record that it was given. A line with `//` in front is copied, and one that is no call is printed behind a question mark. The stored output is
 // what the original Rust answers to the same lines.
-mod answers;
-mod arguments;
-mod calls;
 mod dcch_blocks;
 mod facch_words;
+mod lending;
 mod lent;
 mod records;
 mod sacch_words;
 mod speech_frames;
 mod steps;
 
-use answers::Tally;
-use answers::is_known;
-use answers::print_tally;
-use answers::write;
-use arguments::put;
-use calls::Outcome;
-use calls::turn;
+use calls::answers::Tally;
+use calls::answers::is_known;
+use calls::answers::print_tally;
+use calls::answers::write;
+use calls::arguments::put;
+use lending::Outcome;
+use lending::turn;
 use libc::STDIN_FILENO;
 use std::num::wrapping_add_usize;
 use text::has_shape;

@@ -1,11 +1,11 @@
 // The records of SACCH as numbers of a line. Encoder: memory, twelve rows, cursor. Receiver: twelve fields, their cursor, how many were received, eleven rows,
 // their cursor, how many are available, phase, and the locked phase or 100 (256) for none.
-use crate::answers::part;
-use crate::answers::write;
-use crate::arguments::at;
-use crate::arguments::byte_at;
-use crate::arguments::field_at;
-use crate::arguments::put_number;
+use calls::answers::part;
+use calls::answers::write;
+use calls::arguments::at;
+use calls::arguments::byte_at;
+use calls::arguments::field_at;
+use calls::arguments::put_number;
 use sacch_encoder::SacchEncoder;
 use sacch_receiver::Lock;
 use sacch_receiver::SacchReceiver;

@@ -1,20 +1,4 @@
 // SACCH: words, and the records of encoder and receiver, which are numbers of a line.
-use crate::answers::Answer;
-use crate::answers::Kind;
-use crate::answers::one;
-use crate::answers::print;
-use crate::answers::refused;
-use crate::answers::said;
-use crate::answers::unknown;
-use crate::answers::word;
-use crate::answers::write;
-use crate::answers::wrote;
-use crate::arguments::Given;
-use crate::arguments::asks;
-use crate::arguments::at;
-use crate::arguments::byte_at;
-use crate::arguments::field_at;
-use crate::arguments::flag_at;
 use crate::lent::lent;
 use crate::records::encoder_of;
 use crate::records::print_numbers;
@@ -22,6 +6,22 @@ use crate::records::put;
 use crate::records::receiver_of;
 use crate::records::show_encoder;
 use crate::records::show_receiver;
+use calls::answers::Answer;
+use calls::answers::Kind;
+use calls::answers::one;
+use calls::answers::part;
+use calls::answers::print;
+use calls::answers::refused;
+use calls::answers::said;
+use calls::answers::unknown;
+use calls::answers::word;
+use calls::answers::write;
+use calls::answers::wrote;
+use calls::arguments::asks;
+use calls::arguments::at;
+use calls::arguments::byte_at;
+use calls::arguments::field_at;
+use calls::arguments::flag_at;
 use sacch_decoder::Decoded;
 use sacch_decoder::SacchWord;
 use sacch_encoder::EncodedField;
@@ -36,8 +36,8 @@ fn of_word(w: SacchWord) -> Answer {
 }
 
 // `decode DVCC CODED`.
-pub fn run(call: &[u8], given: Given, numbers: &[u64], input: &[u8]) -> Answer {
-    if !asks(b"decode", call, given, 110) {
+pub fn run(call: &[u8], counts: usize, numbers: &[u64], input: &[u8]) -> Answer {
+    if !asks(b"decode", call, counts, 110) {
         return unknown();
     }
     match sacch_decoder::decode(input, byte_at(numbers, 0)) {
@@ -82,7 +82,7 @@ fn show_field(sent: EncodedField, numbers: &[u64]) {
     let encoder = sent.encoder;
     print(wrote(outcome));
     write(b" sent");
-    crate::answers::part(sent.field as u64);
+    part(sent.field as u64);
     show_encoder(encoder, numbers, 1);
 }
 
@@ -99,13 +99,13 @@ fn show_fields(sent: EncodedWord, numbers: &[u64]) {
 }
 
 // `encode_bits SIX`, `encode_word CONTINUATION MESSAGE DVCC` and `reset`, each before an encoder. Answers whether it was one of them.
-fn encoder_call(call: &[u8], given: Given, numbers: &[u64]) -> bool {
-    if asks(b"encode_bits", call, given, 1500) {
+fn encoder_call(call: &[u8], counts: usize, numbers: &[u64]) -> bool {
+    if asks(b"encode_bits", call, counts, 1500) {
         let encoder = encoder_of(numbers, 1);
         show_field(encoder.encode_bits(byte_at(numbers, 0)), numbers);
         return true;
     }
-    if asks(b"encode_word", call, given, 1700) {
+    if asks(b"encode_word", call, counts, 1700) {
         let encoder = encoder_of(numbers, 3);
         let message = at(numbers, 1);
         let dvcc = byte_at(numbers, 2);
@@ -115,7 +115,7 @@ fn encoder_call(call: &[u8], given: Given, numbers: &[u64]) -> bool {
         );
         return true;
     }
-    if asks(b"reset", call, given, 1400) {
+    if asks(b"reset", call, counts, 1400) {
         let encoder = encoder_of(numbers, 0);
         write(b"done");
         show_encoder(encoder.reset(), numbers, 0);
@@ -125,24 +125,24 @@ fn encoder_call(call: &[u8], given: Given, numbers: &[u64]) -> bool {
 }
 
 // `pushed FIELD DVCC`, so for `push_outcome` and `push`, and `discontinuity`, each before a receiver.
-fn receiver_call(call: &[u8], given: Given, numbers: &[u64]) -> bool {
+fn receiver_call(call: &[u8], counts: usize, numbers: &[u64]) -> bool {
     let field = field_at(numbers, 0);
     let dvcc = byte_at(numbers, 1);
-    if asks(b"pushed", call, given, 3100) {
+    if asks(b"pushed", call, counts, 3100) {
         let receiver = receiver_of(numbers, 2);
         show_pushed(receiver.pushed(field, dvcc), numbers);
         return true;
     }
-    if asks(b"push_outcome", call, given, 3100) {
+    if asks(b"push_outcome", call, counts, 3100) {
         show_pushed(lent(receiver_of(numbers, 2), field, dvcc), numbers);
         return true;
     }
-    if asks(b"push", call, given, 3100) {
+    if asks(b"push", call, counts, 3100) {
         let receiver = receiver_of(numbers, 2);
         show_push(receiver.push(field, dvcc), numbers);
         return true;
     }
-    if asks(b"discontinuity", call, given, 2900) {
+    if asks(b"discontinuity", call, counts, 2900) {
         let receiver = receiver_of(numbers, 0);
         write(b"done");
         show_receiver(receiver.discontinuity(), numbers, 0);
@@ -152,9 +152,9 @@ fn receiver_call(call: &[u8], given: Given, numbers: &[u64]) -> bool {
 }
 
 // The calls over records print their answers themselves.
-pub fn over_record(call: &[u8], given: Given, numbers: &[u64]) -> bool {
-    if encoder_call(call, given, numbers) {
+pub fn over_record(call: &[u8], counts: usize, numbers: &[u64]) -> bool {
+    if encoder_call(call, counts, numbers) {
         return true;
     }
-    receiver_call(call, given, numbers)
+    receiver_call(call, counts, numbers)
 }

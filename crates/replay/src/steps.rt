@@ -1,14 +1,13 @@
 // Register steps, checksums and the bare search of DCCH's code. The steps and the search ask for something, so they are called by their flat functions.
-use crate::answers::Answer;
-use crate::answers::Kind;
-use crate::answers::one;
-use crate::answers::refused_by;
-use crate::answers::said;
-use crate::answers::unknown;
-use crate::arguments::Given;
-use crate::arguments::asks;
-use crate::arguments::byte_at;
-use crate::arguments::flag_at;
+use calls::answers::Answer;
+use calls::answers::Kind;
+use calls::answers::one;
+use calls::answers::refused_by;
+use calls::answers::said;
+use calls::answers::unknown;
+use calls::arguments::asks;
+use calls::arguments::byte_at;
+use calls::arguments::flag_at;
 use flat_coding::Checksum;
 use flat_coding::Step;
 
@@ -46,31 +45,31 @@ fn searched(coded: &[u8], word: &mut [u8]) -> Answer {
 }
 
 // `dcch STATE INPUT`, and so for FACCH and ACELP.
-pub fn step(call: &[u8], given: Given, numbers: &[u64]) -> Answer {
+pub fn step(call: &[u8], counts: usize, numbers: &[u64]) -> Answer {
     let state = byte_at(numbers, 0);
     let input = byte_at(numbers, 1);
-    if asks(b"dcch", call, given, 200) {
+    if asks(b"dcch", call, counts, 200) {
         return stepped(flat_coding::dcch_transition(state, input));
     }
-    if asks(b"facch", call, given, 200) {
+    if asks(b"facch", call, counts, 200) {
         return stepped(flat_coding::facch_transition(state, input));
     }
-    if asks(b"acelp", call, given, 200) {
+    if asks(b"acelp", call, counts, 200) {
         return stepped(flat_coding::acelp_transition(state, input));
     }
     unknown()
 }
 
 // `checksum DVCC BROADCAST BITS`, `checksum7 BITS`, `search CODED WORD`.
-pub fn run(call: &[u8], given: Given, numbers: &[u64], input: &[u8], room: &mut [u8]) -> Answer {
-    if asks(b"checksum", call, given, 210) {
+pub fn run(call: &[u8], counts: usize, numbers: &[u64], input: &[u8], room: &mut [u8]) -> Answer {
+    if asks(b"checksum", call, counts, 210) {
         let dvcc = byte_at(numbers, 0);
         return checked(flat_coding::checksum16(input, dvcc, flag_at(numbers, 1)));
     }
-    if asks(b"checksum7", call, given, 10) {
+    if asks(b"checksum7", call, counts, 10) {
         return checked(flat_coding::checksum7(input));
     }
-    if asks(b"search", call, given, 11) {
+    if asks(b"search", call, counts, 11) {
         return searched(input, room);
     }
     unknown()

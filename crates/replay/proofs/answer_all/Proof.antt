@@ -5,8 +5,6 @@ use lib.ListN.{length}
 use borrow.Author.Needs.{needs}
 use Rattle.replay.proofs.answer_all.Statement.{statement}
 use Rattle.replay.proofs.answer_all.Tie as tie
-use Rattle.io.proofs.read_full.Reads as read-full-reads
-use Rattle.replay.proofs.take_piece.Reads as take-piece-reads
 
 abbrev Inv-loop : tie.InvT-loop
 Inv-loop piece₀ line₀ left₀ n₀ piece line left n = (length piece ≡ length piece₀) × (length line ≡ length line₀)

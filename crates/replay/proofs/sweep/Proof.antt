@@ -4,10 +4,6 @@ use Prim.Native.Nat.{_-_, _≤_}
 use borrow.Author.Needs.{needs}
 use Rattle.replay.proofs.sweep.Statement.{statement}
 use Rattle.replay.proofs.sweep.Tie as tie
-use Rattle.replay.proofs.answers.Tally.new.Reads as new-reads
-use Rattle.replay.proofs.answers.Tally.with.Reads as with-reads
-use Rattle.replay.proofs.answers.print_tally.Reads as print-tally-reads
-use Rattle.replay.proofs.calls.turn.Reads as turn-reads
 
 abbrev Inv-loop : tie.InvT-loop
 Inv-loop line counts₀ k₀ k-end counts k = k-end ≡ k-end

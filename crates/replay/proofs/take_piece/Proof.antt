@@ -6,7 +6,6 @@ use native.Mathlib.Omega.{arith}
 use borrow.Author.Needs.{needs}
 use Rattle.replay.proofs.take_piece.Statement.{statement}
 use Rattle.replay.proofs.take_piece.Tie as tie
-use Rattle.replay.proofs.take_byte.Reads as take-byte-reads
 
 abbrev Inv-loop : tie.InvT-loop
 Inv-loop piece line₀ before n₀ i₀ i-end line n i = (i-end ≡ length piece) × (i ≤ i-end) × (length line ≡ length line₀)

@@ -6,7 +6,6 @@ use native.Mathlib.Omega.{arith}
 use borrow.Author.Needs.{needs}
 use Rattle.replay.proofs.dcch_blocks.reliabilities.Statement.{statement}
 use Rattle.replay.proofs.dcch_blocks.reliabilities.Tie as tie
-use Rattle.replay.proofs.dcch_blocks.reliability.Reads as reliability-reads
 
 abbrev Inv-loop : tie.InvT-loop
 Inv-loop bytes values₀ i₀ i-end values i = (i-end ≡ length bytes) × (i ≤ i-end) × (length values ≡ length values₀)

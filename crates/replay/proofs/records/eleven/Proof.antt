@@ -3,8 +3,6 @@ use Prim.Native.Nat.{_-_, _≤_}
 use borrow.Author.Needs.{needs}
 use Rattle.replay.proofs.records.eleven.Statement.{statement}
 use Rattle.replay.proofs.records.eleven.Tie as tie
-use Rattle.replay.proofs.arguments.field_at.Reads as field-at-reads
-use Rattle.std.proofs.num.wrapping_add_usize.Reads as wrapping-add-usize-reads
 
 abbrev Inv-loop : tie.InvT-loop
 Inv-loop numbers from list₀ i₀ list i = i ≤ 11

@@ -6,8 +6,6 @@ use native.Mathlib.Omega.{arith}
 use borrow.Author.Needs.{needs}
 use Rattle.replay.proofs.records.kept.Statement.{statement}
 use Rattle.replay.proofs.records.kept.Tie as tie
-use Rattle.replay.proofs.arguments.at.Reads as at-reads
-use Rattle.std.proofs.num.wrapping_add_usize.Reads as wrapping-add-usize-reads
 
 abbrev Inv-loop : tie.InvT-loop
 Inv-loop now numbers from i₀ i-end i = (i-end ≡ length now) × (i ≤ i-end)

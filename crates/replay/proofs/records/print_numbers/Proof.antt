@@ -6,7 +6,6 @@ use native.Mathlib.Omega.{arith}
 use borrow.Author.Needs.{needs}
 use Rattle.replay.proofs.records.print_numbers.Statement.{statement}
 use Rattle.replay.proofs.records.print_numbers.Tie as tie
-use Rattle.replay.proofs.answers.part.Reads as part-reads
 
 abbrev Inv-loop : tie.InvT-loop
 Inv-loop numbers i₀ i-end i = (i-end ≡ length numbers) × (i ≤ i-end)

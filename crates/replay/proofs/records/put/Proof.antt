@@ -6,9 +6,6 @@ use native.Mathlib.Omega.{arith}
 use borrow.Author.Needs.{needs}
 use Rattle.replay.proofs.records.put.Statement.{statement}
 use Rattle.replay.proofs.records.put.Tie as tie
-use Rattle.replay.proofs.arguments.put_number.Reads as put-number-reads
-use Rattle.replay.proofs.records.wide.Reads as wide-reads
-use Rattle.std.proofs.num.wrapping_add_usize.Reads as wrapping-add-usize-reads
 
 abbrev Inv-loop : tie.InvT-loop
 Inv-loop list out₀ from i₀ i-end out i = (i-end ≡ length list) × (i ≤ i-end) × (length out ≡ length out₀)

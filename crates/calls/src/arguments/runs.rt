@@ -1,0 +1,158 @@
+// Slices as runs with commas between: `0110` is four bytes, `260x01` is 260 bytes with 0 and 1 in turn, `#ff` is the byte 255. Two runs have another byte
+// in each turn of a line: `*` is the byte 0 in the first, 1 in the next, up to 255; `260x0@3` is 260 zeros with a 3 at the place of the turn.
+use std::num::wrapping_add_usize;
+use text::digit;
+ghost use Prim.Native.Nat.{_≤_};
+ghost use lib.ListN.{length};
+
+pub struct Filled {
+    pub length: usize,
+    pub turns: usize,
+    pub well_formed: bool,
+}
+
+// The first place of a byte from a place on, or the end.
+pub fn find(text: &[u8], from: usize, byte: u8) -> usize
+    requires { ⌜ from ≤ length (now text) ⌝ }
+    ensures { λ r. ⌜ (from ≤ r) × (r ≤ length (now (text .entry))) ⌝ }
+{
+    for i in from..text.len() {
+        if text[i] == byte {
+            return i;
+        }
+    }
+    text.len()
+}
+
+// One more digit, as long as there is room for it.
+fn with_digit(n: u64, digit: u8, decimal: bool) -> u64 {
+    if decimal {
+        return if n < 100000 { n * 10 + digit as u64 } else { n };
+    }
+    if n < 0x1000000000000000 {
+        return n * 16 + (digit % 16) as u64;
+    }
+    n
+}
+
+pub fn number(text: &[u8], decimal: bool) -> u64 {
+    let mut n = 0u64;
+    for i in 0..text.len() {
+        n = with_digit(n, digit(text[i]), decimal);
+    }
+    n
+}
+
+// Whether a text is digits, at least one.
+pub fn is_number(text: &[u8]) -> bool {
+    for i in 0..text.len() {
+        if digit(text[i]) == 16 {
+            return false;
+        }
+    }
+    text.len() != 0
+}
+
+// Bytes beyond the end are dropped; the length shows them.
+pub fn put(out: &mut [u8], at: usize, byte: u8) {
+    if at < out.len() {
+        out[at] = byte;
+    }
+}
+
+// The digit at a place of digits that go round.
+fn in_turn(digits: &[u8], k: usize) -> u8 {
+    let n = digits.len();
+    if n == 0 {
+        return 0;
+    }
+    let at = k % n;
+    if at < digits.len() {
+        digit(digits[at])
+    } else {
+        0
+    }
+}
+
+fn repeat(digits: &[u8], count: usize, out: &mut [u8], from: usize) {
+    for k in 0..count {
+        put(out, wrapping_add_usize(from, k), in_turn(digits, k));
+    }
+}
+
+fn one_byte(out: &mut [u8], filled: Filled, byte: u8, turns: usize) -> Filled {
+    put(out, filled.length, byte);
+    Filled {
+        length: wrapping_add_usize(filled.length, 1),
+        turns,
+        well_formed: filled.well_formed,
+    }
+}
+
+fn times(digits: &[u8], count: usize, out: &mut [u8], filled: Filled) -> Filled {
+    repeat(digits, count, out, filled.length);
+    Filled {
+        length: wrapping_add_usize(filled.length, count),
+        turns: filled.turns,
+        well_formed: bits::both(filled.well_formed, is_number(digits)),
+    }
+}
+
+// `digits`, or a count, an x and digits.
+fn repeated(run: &[u8], out: &mut [u8], filled: Filled) -> Filled {
+    let cross = find(run, 0, b'x');
+    if cross < run.len() {
+        let digits = cross + 1;
+        let count = number(&run[0..cross], true) as usize;
+        return times(&run[digits..], count, out, filled);
+    }
+    times(run, run.len(), out, filled)
+}
+
+// The same, and behind an @ the byte that is put at the place of the turn.
+fn swept(run: &[u8], at: usize, turn: usize, out: &mut [u8], filled: Filled) -> Filled
+    requires { ⌜ at ≤ length (now run) ⌝ }
+{
+    let from = filled.length;
+    let mut all = repeated(&run[0..at], out, filled);
+    // The @ itself counts as a zero in front.
+    let byte = number(&run[at..], false) % 256;
+    put(out, wrapping_add_usize(from, turn), byte as u8);
+    all.turns = std::num::wrapping_sub_usize(all.length, from);
+    all
+}
+
+fn expand_run(run: &[u8], turn: usize, out: &mut [u8], filled: Filled) -> Filled {
+    if run.len() == 0 {
+        return repeated(run, out, filled);
+    }
+    if run[0] == b'*' {
+        return one_byte(out, filled, (turn % 256) as u8, 256);
+    }
+    if run[0] == b'#' {
+        let byte = number(&run[1..], false) % 256;
+        return one_byte(out, filled, byte as u8, filled.turns);
+    }
+    let at = find(run, 0, b'@');
+    if at < run.len() {
+        return swept(run, at, turn, out, filled);
+    }
+    repeated(run, out, filled)
+}
+
+// The bytes of a slice. Without a run it is empty.
+pub fn expand(text: &[u8], turn: usize, out: &mut [u8]) -> Filled {
+    let mut filled = Filled {
+        length: 0,
+        turns: 0,
+        well_formed: true,
+    };
+    let mut at = 0;
+    while at < text.len() {
+        let end = find(text, at, b',');
+        let start = at;
+        at = end + 1;
+        filled = expand_run(&text[start..end], turn, out, filled);
+    }
+    filled
+}
