@@ -3,13 +3,12 @@
 use crate::arguments::Line;
 use crate::calls::window_text;
 use crate::told::refused_text;
-use differential::phy::sacch::probe::{State, encoder, encoder_state, receiver, state};
+use differential::phy::sacch::probe::{State, encoder, receiver};
 use differential::phy::sacch::{ReceiveOutcome, SacchEncoder, SacchReceiver};
-use differential::port_sacch::{number, packed, refusal, unpacked};
+use differential::port_sacch::{number, refusal, unpacked};
+use differential::records::{UNLOCKED, encoder_numbers, receiver_numbers};
 
 const MESSAGES: u64 = 1 << 48;
-/// The number of no lock.
-const UNLOCKED: u64 = 256;
 
 pub fn over_record(line: &Line) -> Option<String> {
     let numbers = &line.numbers;
@@ -56,14 +55,6 @@ fn encoder_of(numbers: &[u64]) -> Option<SacchEncoder> {
             numbers[13] as usize,
         )
     })
-}
-
-fn encoder_numbers(rust: &SacchEncoder) -> Vec<u64> {
-    let (memory, rows, cursor) = encoder_state(rust);
-    let mut numbers = vec![memory.into()];
-    numbers.extend(packed(rows).map(u64::from));
-    numbers.push(cursor as u64);
-    numbers
 }
 
 /// A refusal: the fields are zeros and the record is kept.
@@ -126,17 +117,6 @@ fn receiver_of(numbers: &[u64]) -> Option<SacchReceiver> {
             locked: (numbers[28] != UNLOCKED).then_some(at(28)),
         })
     })
-}
-
-/// The original's count of fields goes on; document 01's stops at 12.
-fn receiver_numbers(rust: &SacchReceiver) -> Vec<u64> {
-    let state = state(rust);
-    let mut numbers: Vec<u64> = packed(state.fields).map(u64::from).into();
-    numbers.extend([state.field_cursor, state.received.min(12)].map(|n| n as u64));
-    numbers.extend(packed(state.rows).map(u64::from));
-    numbers.extend([state.cursor, state.available, state.phase].map(|n| n as u64));
-    numbers.push(state.locked.map_or(UNLOCKED, |phase| phase as u64));
-    numbers
 }
 
 /// The receiver within its bounds and the field, or the refusal.

@@ -1,4 +1,5 @@
 //! What is tried of every call over slices.
+use differential::blocks::{code, text};
 
 /// A call with its numbers, and the exact lengths of what it reads and writes.
 pub struct Call<'a> {
@@ -106,14 +107,13 @@ impl Call<'_> {
     }
 }
 
-/// A single one, coded from a place on as DCCH's code and ACELP's do from the memory 0, in a block
-/// of a length; some bits are turned over.
+/// A single one, coded from a place on by the code of DCCH, in a block of a length; some bits are
+/// turned over. ACELP's code sends the same bits for it.
 pub fn one_coded(length: usize, place: usize, turned: &[usize]) -> String {
-    let one = [1, 1, 1, 0, 0, 1, 1, 1, 0, 1, 1, 1];
-    let coded = |at: usize| {
-        at.checked_sub(place)
-            .is_some_and(|k| one.get(k) == Some(&1))
-    };
-    let bits = (0..length).map(|at| coded(at) ^ turned.contains(&at));
-    bits.map(|bit| if bit { '1' } else { '0' }).collect()
+    let one = code(0, &[true, false, false, false, false, false]);
+    let coded = |at: usize| at.checked_sub(place).and_then(|k| one.get(k)) == Some(&true);
+    let bits: Vec<bool> = (0..length)
+        .map(|at| coded(at) ^ turned.contains(&at))
+        .collect();
+    text(&bits)
 }

@@ -1,15 +1,14 @@
-//! The SACCH receiver: twelve fields, their cursor, received; eleven rows, their cursor, available;
-//! phase, and the locked phase or 100 for none.
+//! The SACCH receiver, at its bounds and as it hears words.
 use crate::{hexadecimal, section};
 use differential::air::{Given, any_encoder, any_receiver, any_word, fields};
-use differential::phy::sacch::probe::{State, receiver, state};
+use differential::phy::sacch::probe::{State, receiver};
 use differential::phy::sacch::{SacchEncoder, SacchReceiver};
-use differential::port_sacch::{packed, unpacked};
+use differential::port_sacch::unpacked;
 use differential::prng::Prng;
+use differential::records::{UNLOCKED, receiver_numbers};
 
 /// By value, over a lent receiver, and by value for words alone.
 const WAYS: [&str; 3] = ["pushed", "push_outcome", "push"];
-const UNLOCKED: u64 = 256;
 const DVCC: u8 = 90;
 
 pub fn calls(p: &mut Prng) {
@@ -25,7 +24,7 @@ pub fn calls(p: &mut Prng) {
     section("SACCH receivers in any state");
     for way in WAYS {
         for _ in 0..8 {
-            let before = numbers(&receiver(&any_receiver(p)));
+            let before = receiver_numbers(&receiver(&any_receiver(p)));
             push(way, p.below(4096) as u16, p.byte(), &before);
         }
     }
@@ -37,20 +36,8 @@ fn push(way: &str, field: u16, dvcc: u8, before: &[u64]) {
     println!("sacch {way} {field:x} {dvcc:x} {}", hexadecimal(before));
 }
 
-/// The original's count of fields goes on; document 01's stops at 12.
-fn numbers(receiver: &SacchReceiver) -> Vec<u64> {
-    let state = state(receiver);
-    let (fields, rows) = (packed(state.fields), packed(state.rows));
-    let (fields, rows) = (fields.map(u64::from), rows.map(u64::from));
-    let received = state.received.min(12);
-    let of_fields = [state.field_cursor, received].map(|n| n as u64);
-    let of_rows = [state.cursor, state.available, state.phase].map(|n| n as u64);
-    let lock = state.locked.map_or(UNLOCKED, |phase| phase as u64);
-    [&fields[..], &of_fields, &rows, &of_rows, &[lock]].concat()
-}
-
 fn fresh() -> Vec<u64> {
-    numbers(&SacchReceiver::default())
+    receiver_numbers(&SacchReceiver::default())
 }
 
 fn of_fields(field_cursor: u64, received: u64) -> Vec<u64> {
@@ -143,7 +130,7 @@ fn listening() {
 fn hear(fields: &[u16], dvcc: u8, start: &State) {
     let mut receiver = receiver(start);
     for field in fields {
-        push("pushed", *field, dvcc, &numbers(&receiver));
+        push("pushed", *field, dvcc, &receiver_numbers(&receiver));
         receiver.push_outcome(unpacked((*field).into()), dvcc);
     }
 }
@@ -160,10 +147,13 @@ fn damaged(p: &mut Prng) {
     let mut receiver = receiver(&any_receiver(p));
     for (at, field) in sent.iter().enumerate() {
         if at == 9 {
-            println!("sacch discontinuity {}", hexadecimal(&numbers(&receiver)));
+            println!(
+                "sacch discontinuity {}",
+                hexadecimal(&receiver_numbers(&receiver))
+            );
             receiver = SacchReceiver::default();
         }
-        push(WAYS[at % 3], *field, dvcc, &numbers(&receiver));
+        push(WAYS[at % 3], *field, dvcc, &receiver_numbers(&receiver));
         receiver.push_outcome(unpacked((*field).into()), dvcc);
     }
 }

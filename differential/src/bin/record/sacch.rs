@@ -1,12 +1,12 @@
-//! SACCH words, and the encoder: memory, twelve rows, cursor.
+//! SACCH words and the encoder.
 use crate::corners::{call, one_coded};
 use crate::{hexadecimal, section};
 use differential::air::{MESSAGES, any_encoder, any_word};
 use differential::blocks::{Ends, KINDS, flip, text};
-use differential::phy::sacch::SacchEncoder;
 use differential::phy::sacch::probe::encoder_state;
-use differential::port_sacch::{packed, unpacked};
+use differential::port_sacch::unpacked;
 use differential::prng::Prng;
+use differential::records::encoder_numbers;
 
 const FLIPS: [usize; 8] = [0, 1, 2, 3, 5, 8, 12, 20];
 
@@ -105,12 +105,6 @@ fn encode_word(given: &[u64], before: &[u64]) {
         hexadecimal(given),
         hexadecimal(before)
     );
-}
-
-pub fn encoder_numbers(encoder: &SacchEncoder) -> Vec<u64> {
-    let (memory, rows, cursor) = encoder_state(encoder);
-    let rows = packed(rows).map(u64::from);
-    [&[memory.into()], &rows[..], &[cursor as u64]].concat()
 }
 
 /// Encoders in any state.
