@@ -10,7 +10,7 @@ pub use runs::put;
 use std::num::wrapping_add_usize;
 use text::has_shape;
 
-// What stands on a line: how many of each, and how long the slices are.
+// How many of each there are, and how long the slices are.
 pub struct Given {
     pub numbers: usize,
     pub inputs: usize,
@@ -38,11 +38,6 @@ fn nothing() -> Given {
     }
 }
 
-fn malformed(mut given: Given) -> Given {
-    given.well_formed = false;
-    given
-}
-
 fn most(a: usize, b: usize) -> usize {
     if a < b { b } else { a }
 }
@@ -59,13 +54,15 @@ fn with_input(mut given: Given, filled: Filled) -> Given {
     given
 }
 
-fn with_room(mut given: Given, length: usize) -> Given {
+fn with_room(mut given: Given, word: &[u8]) -> Given {
+    let length = number(word, true) as usize;
     if given.rooms == 0 {
         given.first_room = length;
     } else {
         given.second_room = length;
     }
     given.rooms = wrapping_add_usize(given.rooms, 1);
+    given.well_formed = bits::both(given.well_formed, is_number(word));
     given
 }
 
@@ -76,10 +73,11 @@ pub fn put_number(numbers: &mut [u64], k: usize, n: u64) {
     }
 }
 
-fn with_number(mut given: Given, numbers: &mut [u64], value: u64) -> Given {
+fn with_number(mut given: Given, numbers: &mut [u64], word: &[u8]) -> Given {
     let k = given.numbers;
-    put_number(numbers, k, value);
+    put_number(numbers, k, number(word, false));
     given.numbers = wrapping_add_usize(k, 1);
+    given.well_formed = bits::both(given.well_formed, is_number(word));
     given
 }
 
@@ -93,7 +91,7 @@ fn take(
     second: &mut [u8],
 ) -> Given {
     if word.len() == 0 {
-        return malformed(given);
+        return with_number(given, numbers, word);
     }
     if word[0] == b':' {
         if given.inputs == 0 {
@@ -102,14 +100,12 @@ fn take(
         return with_input(given, expand(&word[1..], turn, second));
     }
     if word[0] == b'_' {
-        return with_room(given, number(&word[1..], true) as usize);
+        return with_room(given, &word[1..]);
     }
-    if !is_number(word) {
-        return malformed(given);
-    }
-    with_number(given, numbers, number(word, false))
+    with_number(given, numbers, word)
 }
 
+// The arguments of a line in one of its turns.
 pub fn read(
     line: &[u8],
     turn: usize,

@@ -5,6 +5,7 @@ use crate::sacch_words;
 use crate::speech_frames;
 use crate::steps;
 use calls::answers::Answer;
+use calls::answers::UNTOUCHED;
 use calls::answers::done;
 use calls::answers::is_known;
 use calls::answers::print;
@@ -78,13 +79,14 @@ fn run(
     speech(module, call, counts, numbers, first, second, room, other)
 }
 
-// No slice is longer.
+// No slice is longer than 800 bytes.
 fn at_most(n: usize) -> usize
     ensures { λ r. ⌜ r ≤ 800 ⌝ }
 {
     if n < 800 { n } else { 800 }
 }
 
+// Prints an answer and the rooms that there are.
 fn show(answer: Answer, given: Given, one: &[u8], two: &[u8])
     requires { ⌜ (length (now one) ≤ 800) × (length (now two) ≤ 800) ⌝ }
 {
@@ -100,6 +102,7 @@ fn show(answer: Answer, given: Given, one: &[u8], two: &[u8])
     }
 }
 
+// Calls, and prints the answer where the line has one turn.
 fn told(
     module: &[u8],
     call: &[u8],
@@ -132,6 +135,7 @@ fn told(
     }
 }
 
+// Lends rooms that hold 9s.
 fn lend(
     module: &[u8],
     call: &[u8],
@@ -142,8 +146,8 @@ fn lend(
 ) -> Outcome
     requires { ⌜ length (now first) ≤ 800 ⌝ }
 {
-    let mut one = [9u8; 800];
-    let mut two = [9u8; 800];
+    let mut one = [UNTOUCHED; 800];
+    let mut two = [UNTOUCHED; 800];
     let n = at_most(given.first_room);
     let m = at_most(given.second_room);
     told(
@@ -158,7 +162,7 @@ fn lend(
     )
 }
 
-fn printed(answer: Answer) -> Outcome {
+fn once(answer: Answer) -> Outcome {
     Outcome {
         answer,
         untouched: false,
@@ -166,7 +170,7 @@ fn printed(answer: Answer) -> Outcome {
     }
 }
 
-// A call of SACCH without slices is one over a record.
+// The calls of SACCH over records print their answers themselves; all others are lent slices.
 fn call_with(
     module: &[u8],
     call: &[u8],
@@ -178,11 +182,11 @@ fn call_with(
     requires { ⌜ length (now first) ≤ 800 ⌝ }
 {
     if !given.well_formed {
-        return printed(unknown());
+        return once(unknown());
     }
     if has_shape(b"sacch", module) {
         if sacch_words::over_record(call, given.counts(), numbers) {
-            return printed(done());
+            return once(done());
         }
     }
     lend(module, call, given, numbers, first, second)

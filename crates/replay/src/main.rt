@@ -20,14 +20,8 @@ use lending::turn;
 use libc::STDIN_FILENO;
 use std::num::wrapping_add_usize;
 use text::has_shape;
-ghost use mathlib.Core.Path.{_≡_};
-ghost use Prim.Native.Nat.{_≤_};
-ghost use lib.ListN.{length};
 
-// No line is longer.
-const MOST: usize = 2048;
-
-// Every turn of a line after its first.
+// Counts the answers to every turn of a line; the first turn is over.
 fn sweep(line: &[u8], first: Outcome) {
     let answer = first.answer;
     let mut counts = Tally::new().with(answer, first.untouched);
@@ -110,6 +104,7 @@ fn answer_all(piece: &mut [u8], line: &mut [u8]) {
     }
 }
 
+// No line is longer than 2048 bytes.
 fn main() {
     let mut piece = io::large_buffer();
     let mut line = [0u8; 2048];

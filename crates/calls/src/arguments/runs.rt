@@ -1,6 +1,7 @@
 // Slices as runs with commas between: `0110` is four bytes, `260x01` is 260 bytes with 0 and 1 in turn, `#ff` is the byte 255. Two runs have another byte
 // in each turn of a line: `*` is the byte 0 in the first, 1 in the next, up to 255; `260x0@3` is 260 zeros with a 3 at the place of the turn.
 use std::num::wrapping_add_usize;
+use std::num::wrapping_sub_usize;
 use text::digit;
 ghost use Prim.Native.Nat.{_≤_};
 ghost use lib.ListN.{length};
@@ -80,64 +81,59 @@ fn repeat(digits: &[u8], count: usize, out: &mut [u8], from: usize) {
     }
 }
 
-fn one_byte(out: &mut [u8], filled: Filled, byte: u8, turns: usize) -> Filled {
-    put(out, filled.length, byte);
-    Filled {
-        length: wrapping_add_usize(filled.length, 1),
-        turns,
-        well_formed: filled.well_formed,
-    }
-}
-
-fn times(digits: &[u8], count: usize, out: &mut [u8], filled: Filled) -> Filled {
-    repeat(digits, count, out, filled.length);
-    Filled {
-        length: wrapping_add_usize(filled.length, count),
-        turns: filled.turns,
-        well_formed: bits::both(filled.well_formed, is_number(digits)),
-    }
+// So many bytes more.
+fn with_bytes(mut filled: Filled, count: usize, turns: usize, well_formed: bool) -> Filled {
+    filled.length = wrapping_add_usize(filled.length, count);
+    filled.turns = turns;
+    filled.well_formed = bits::both(filled.well_formed, well_formed);
+    filled
 }
 
 // `digits`, or a count, an x and digits.
 fn repeated(run: &[u8], out: &mut [u8], filled: Filled) -> Filled {
     let cross = find(run, 0, b'x');
-    if cross < run.len() {
-        let digits = cross + 1;
-        let count = number(&run[0..cross], true) as usize;
-        return times(&run[digits..], count, out, filled);
+    if cross == run.len() {
+        repeat(run, cross, out, filled.length);
+        return with_bytes(filled, cross, filled.turns, is_number(run));
     }
-    times(run, run.len(), out, filled)
+    let count = number(&run[0..cross], true) as usize;
+    let start = cross + 1;
+    let digits = &run[start..];
+    repeat(digits, count, out, filled.length);
+    let well_formed = bits::both(is_number(&run[0..cross]), is_number(digits));
+    with_bytes(filled, count, filled.turns, well_formed)
 }
 
-// The same, and behind an @ the byte that is put at the place of the turn.
-fn swept(run: &[u8], at: usize, turn: usize, out: &mut [u8], filled: Filled) -> Filled
-    requires { ⌜ at ≤ length (now run) ⌝ }
-{
-    let from = filled.length;
-    let mut all = repeated(&run[0..at], out, filled);
-    // The @ itself counts as a zero in front.
-    let byte = number(&run[at..], false) % 256;
-    put(out, wrapping_add_usize(from, turn), byte as u8);
-    all.turns = std::num::wrapping_sub_usize(all.length, from);
-    all
+fn byte_of(text: &[u8]) -> u8 {
+    (number(text, false) % 256) as u8
+}
+
+// A run, and the byte that is put at the place of the turn.
+fn swept(run: &[u8], byte: &[u8], turn: usize, out: &mut [u8], filled: Filled) -> Filled {
+    let all = repeated(run, out, filled);
+    put(out, wrapping_add_usize(filled.length, turn), byte_of(byte));
+    let turns = wrapping_sub_usize(all.length, filled.length);
+    with_bytes(all, 0, turns, is_number(byte))
 }
 
 fn expand_run(run: &[u8], turn: usize, out: &mut [u8], filled: Filled) -> Filled {
     if run.len() == 0 {
-        return repeated(run, out, filled);
+        return with_bytes(filled, 0, 0, false);
     }
     if run[0] == b'*' {
-        return one_byte(out, filled, (turn % 256) as u8, 256);
+        put(out, filled.length, (turn % 256) as u8);
+        return with_bytes(filled, 1, 256, true);
     }
     if run[0] == b'#' {
-        let byte = number(&run[1..], false) % 256;
-        return one_byte(out, filled, byte as u8, filled.turns);
+        put(out, filled.length, byte_of(&run[1..]));
+        return with_bytes(filled, 1, filled.turns, is_number(&run[1..]));
     }
-    let at = find(run, 0, b'@');
-    if at < run.len() {
-        return swept(run, at, turn, out, filled);
+    let sign = find(run, 0, b'@');
+    if sign == run.len() {
+        return repeated(run, out, filled);
     }
-    repeated(run, out, filled)
+    let start = sign + 1;
+    swept(&run[0..sign], &run[start..], turn, out, filled)
 }
 
 // The bytes of a slice. Without a run it is empty.
