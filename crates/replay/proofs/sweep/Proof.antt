@@ -1,6 +1,6 @@
 -- `replay::sweep` is safe and ends. Assumes nothing.
-use mathlib.Core.Path.{_≡_, refl}
-use Prim.Native.Nat.{_-_, _≤_}
+use mathlib.Core.Path.{_≡_}
+use Prim.Native.Nat.{_-_}
 use borrow.Author.Needs.{needs}
 use Rattle.replay.proofs.sweep.Statement.{statement}
 use Rattle.replay.proofs.sweep.Tie as tie

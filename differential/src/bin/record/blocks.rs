@@ -6,7 +6,7 @@ use differential::channel::{Channel, FORMATS, MODES};
 use differential::phy::dcch::BlockFormat;
 use differential::prng::Prng;
 
-/// The places in the list of reliabilities, two of which have a size, that a block draws from.
+/// The reliabilities are eight sizes, each with either sign. Sizes that a block draws from.
 const DRAWN: [&[usize]; 7] = [
     &[1],
     &[0, 1, 1, 1],
@@ -89,16 +89,11 @@ fn decoded(p: &mut Prng, format: BlockFormat) {
 
 /// Ones for zeros and minus ones for ones; a wrong bit, a NaN and an infinity at each place.
 fn soft(name: &str, coded: usize, information: usize) {
-    let call = Call {
+    Call {
         bits: ["2", "3"],
         wrong: "#10",
         swept: &["3", "10", "12"],
-        ..call(name, &[], &[])
-    };
-    Call {
-        inputs: &[coded],
-        rooms: &[information],
-        ..call
+        ..call(name, &[coded], &[information])
     }
     .corners();
 }

@@ -19,10 +19,9 @@ pub fn calls(p: &mut Prng) {
     println!("facch decode 1 :260x0");
     decoded(p);
     section("FACCH decode_erased: DVCC, coded bits, 2 where one is not observed");
-    let erased = call("facch decode_erased 0", &[260], &[]);
     Call {
         swept: &["1", "2", "3"],
-        ..erased
+        ..call("facch decode_erased 0", &[260], &[])
     }
     .corners();
     few_observed();
