@@ -17,6 +17,7 @@ pub mod port_sacch;
 pub mod port_soft;
 pub mod port_speech;
 pub mod prng;
+pub mod records;
 pub mod reference;
 pub mod reference_facch;
 pub mod reference_soft;

@@ -1,2 +1,0 @@
--- Lines whose answers are right.
-pub mod Calls

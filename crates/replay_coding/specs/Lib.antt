@@ -1,2 +1,0 @@
--- Lines of steps, checksums and searches.
-pub mod Calls

@@ -1,2 +1,0 @@
--- Lines of DCCH blocks.
-pub mod Blocks
