@@ -1,12 +1,12 @@
 // Reads the arguments of a line: numbers, then slices that a call reads, then the lengths of those that it writes.
-mod runs;
+mod patterns;
 
-use runs::Filled;
-use runs::expand;
-pub use runs::find;
-use runs::is_number;
-use runs::number;
-pub use runs::put;
+use patterns::Filled;
+use patterns::expand;
+pub use patterns::find;
+use patterns::is_number;
+use patterns::number;
+pub use patterns::put;
 use std::num::wrapping_add_usize;
 use text::has_shape;
 

@@ -1,6 +1,5 @@
 -- The laws of characters and shapes.
 -- The laws.
 pub mod Reading
-pub mod Parts
 pub mod Stored
 pub mod Digits

@@ -10,7 +10,7 @@ use borrow.Author.Tests.{lt-ltb, le-ltb, ltb-true, eq-eqb, ne-eqb}
 use lib.ListN.{length, drop, getD, length-map, drop-of-length-le}
 use lib.Seq.{drop-cons, ext-getD}
 use lib.Dec.{eqb, ltb}
-use Rattle.text.specs.Lines.{bitOf, digitOf, shaped, stands}
+use Rattle.text.specs.Lines.{digitOf, shaped, stands}
 
 -- ---- a digit, by where the byte lies
 module _ (b : ℕ) where
@@ -33,19 +33,6 @@ module _ (b : ℕ) where
   pub digit-5 : 103 ≤ b → 16 ≡ digitOf b
   unfolding digitOf
   digit-5 g = rw (le-ltb b 48 (omega arith), le-ltb b 58 (omega arith), le-ltb b 97 (omega arith), le-ltb b 103 g)
-
-  -- ---- a bit
-  pub bit-zero : b ≡ 48 → 0 ≡ bitOf b
-  unfolding bitOf
-  bit-zero e = rw (eq-eqb b 48 e)
-
-  pub bit-one : (b ≡ 48 → ⊥) → b ≡ 49 → 1 ≡ bitOf b
-  unfolding bitOf
-  bit-one n e = rw (ne-eqb b 48 n, eq-eqb b 49 e)
-
-  pub bit-none : (b ≡ 48 → ⊥) → (b ≡ 49 → ⊥) → 2 ≡ bitOf b
-  unfolding bitOf
-  bit-none n m = rw (ne-eqb b 48 n, ne-eqb b 49 m)
 
 -- ---- one place of a shape
 pub stands-digit : (p b d : ℕ) → p ≡ 35 → d ≡ digitOf b → ltb d 16 ≡ stands p b
@@ -118,15 +105,3 @@ module _ {ps bs : List ℕ} {i : ℕ} (f : Fitting ps bs i) where
   pub fitting-done : length bs ≤ i → true ≡ shaped ps bs
   unfolding shaped
   fitting-done h = let g : length ps ≤ i = omega (arith, f .long) in sym (f .rest ∙ rw (drop-of-length-le ps g, drop-of-length-le bs h))
-
--- ---- what the characters of a text write
-mapped-at : {A : Type 0} (f : ℕ → A) (d : A) (l : List ℕ) (k : ℕ) → k < length l → getD (map f l) k d ≡ f (getD l k 0)
-mapped-at f d [] k h = absurd (not-suc-le-zero h)
-mapped-at f d (x ∷ l) zero h = refl
-mapped-at f d (x ∷ l) (suc k) h = mapped-at f d l k (le-of-suc-le-suc h)
-
--- a list that holds, place by place, what the characters write
-pub mapped-all : {A : Type 0} (f : ℕ → A) (d : A) (l : List ℕ) (vs : List A) → length vs ≡ length l
-    → ((k : ℕ) → k < length l → getD vs k d ≡ f (getD l k 0)) → vs ≡ map f l
-mapped-all f d l vs e p =
-    ext-getD d vs (map f l) (e ∙ sym (length-map l f)) (λ k h. let g : k < length l = omega (arith, e) in p k g ∙ sym (mapped-at f d l k g))

@@ -2,7 +2,7 @@
 use mathlib.Core.Path.{_≡_}
 use Prim.Native.Nat.{ℕ, _+_, _-_, _*_, _≤_, _<_}
 use mathlib.Core.Bool.{Bool, true, false, cond}
-use mathlib.Core.List.{List, [], _∷_, map}
+use mathlib.Core.List.{List, [], _∷_}
 use lib.ListN.{length, getD}
 use lib.Dec.{ltb, eqb}
 
@@ -16,13 +16,6 @@ digitAt l k = digitOf (getD l k 0)
 
 abbrev pub twoAt : List ℕ → ℕ → ℕ
 twoAt l k = digitAt l k * 16 + digitAt l (k + 1)
-
--- the bit that a character writes; 2 of any other byte
-unfoldable pub bitOf : ℕ → ℕ
-bitOf b = cond (eqb b 48) 0 (cond (eqb b 49) 1 2)
-
-abbrev pub bitsIn : List ℕ → List ℕ
-bitsIn l = map bitOf l
 
 -- byte b may stand where the shape has p: `#` (35) stands for any digit, and every other character for itself
 unfoldable pub stands : ℕ → ℕ → Bool

@@ -1,10 +1,10 @@
--- `calls::arguments::runs::repeat` is safe and ends. Assumes nothing.
+-- `calls::arguments::patterns::repeat` is safe and ends. Assumes nothing.
 use mathlib.Core.Path.{_≡_}
 use Prim.Native.Nat.{_-_}
 use lib.ListN.{length}
 use borrow.Author.Needs.{needs}
-use Rattle.calls.proofs.arguments.runs.repeat.Statement.{statement}
-use Rattle.calls.proofs.arguments.runs.repeat.Tie as tie
+use Rattle.calls.proofs.arguments.patterns.repeat.Statement.{statement}
+use Rattle.calls.proofs.arguments.patterns.repeat.Tie as tie
 
 abbrev Inv-loop : tie.InvT-loop
 Inv-loop digits count out₀ from k₀ out k = length out ≡ length out₀

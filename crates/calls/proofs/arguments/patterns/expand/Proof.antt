@@ -1,10 +1,10 @@
--- `calls::arguments::runs::expand` is safe and ends. Assumes nothing.
+-- `calls::arguments::patterns::expand` is safe and ends. Assumes nothing.
 use mathlib.Core.Path.{_≡_}
 use Prim.Native.Nat.{_-_}
 use lib.ListN.{length}
 use borrow.Author.Needs.{needs}
-use Rattle.calls.proofs.arguments.runs.expand.Statement.{statement}
-use Rattle.calls.proofs.arguments.runs.expand.Tie as tie
+use Rattle.calls.proofs.arguments.patterns.expand.Statement.{statement}
+use Rattle.calls.proofs.arguments.patterns.expand.Tie as tie
 
 abbrev Inv-loop : tie.InvT-loop
 Inv-loop text turn out₀ filled₀ at₀ out filled at = length out ≡ length out₀
@@ -21,17 +21,17 @@ find-requires c κs = search needs
 add-at : tie.Need-add-at Inv-loop μ-loop
 add-at c = search needs
 
-sub-expand-run : tie.Need-sub-expand-run Inv-loop μ-loop
-sub-expand-run c = search needs
+sub-expand-one : tie.Need-sub-expand-one Inv-loop μ-loop
+sub-expand-one c = search needs
 
-part-expand-run-start : tie.Need-part-expand-run-start Inv-loop μ-loop
-part-expand-run-start c = search needs
+part-expand-one-start : tie.Need-part-expand-one-start Inv-loop μ-loop
+part-expand-one-start c = search needs
 
-part-expand-run-end : tie.Need-part-expand-run-end Inv-loop μ-loop
-part-expand-run-end c = search needs
+part-expand-one-end : tie.Need-part-expand-one-end Inv-loop μ-loop
+part-expand-one-end c = search needs
 
-expand-run-requires : tie.Need-expand-run-requires Inv-loop μ-loop
-expand-run-requires c κs = search needs
+expand-one-requires : tie.Need-expand-one-requires Inv-loop μ-loop
+expand-one-requires c κs = search needs
 
 loop-less : tie.Need-loop-less Inv-loop μ-loop
 loop-less c = search needs
@@ -54,10 +54,10 @@ expand-spec =
     loop-holds
     find-requires
     add-at
-    sub-expand-run
-    part-expand-run-start
-    part-expand-run-end
-    expand-run-requires
+    sub-expand-one
+    part-expand-one-start
+    part-expand-one-end
+    expand-one-requires
     loop-less
     loop-again
     same-length

@@ -1,4 +1,4 @@
-// Slices as runs with commas between: `0110` is four bytes, `260x01` is 260 bytes with 0 and 1 in turn, `#ff` is the byte 255. Two runs have another byte
+// Slices as patterns with commas between: `0110` is four bytes, `260x01` is 260 bytes with 0 and 1 in turn, `#ff` is the byte 255. Two patterns have another byte
 // in each turn of a line: `*` is the byte 0 in the first, 1 in the next, up to 255; `260x0@3` is 260 zeros with a 3 at the place of the turn.
 use std::num::wrapping_add_usize;
 use std::num::wrapping_sub_usize;
@@ -90,17 +90,17 @@ fn with_bytes(mut filled: Filled, count: usize, turns: usize, well_formed: bool)
 }
 
 // `digits`, or a count, an x and digits.
-fn repeated(run: &[u8], out: &mut [u8], filled: Filled) -> Filled {
-    let cross = find(run, 0, b'x');
-    if cross == run.len() {
-        repeat(run, cross, out, filled.length);
-        return with_bytes(filled, cross, filled.turns, is_number(run));
+fn repeated(pattern: &[u8], out: &mut [u8], filled: Filled) -> Filled {
+    let cross = find(pattern, 0, b'x');
+    if cross == pattern.len() {
+        repeat(pattern, cross, out, filled.length);
+        return with_bytes(filled, cross, filled.turns, is_number(pattern));
     }
-    let count = number(&run[0..cross], true) as usize;
+    let count = number(&pattern[0..cross], true) as usize;
     let start = cross + 1;
-    let digits = &run[start..];
+    let digits = &pattern[start..];
     repeat(digits, count, out, filled.length);
-    let well_formed = bits::both(is_number(&run[0..cross]), is_number(digits));
+    let well_formed = bits::both(is_number(&pattern[0..cross]), is_number(digits));
     with_bytes(filled, count, filled.turns, well_formed)
 }
 
@@ -108,35 +108,35 @@ fn byte_of(text: &[u8]) -> u8 {
     (number(text, false) % 256) as u8
 }
 
-// A run, and the byte that is put at the place of the turn.
-fn swept(run: &[u8], byte: &[u8], turn: usize, out: &mut [u8], filled: Filled) -> Filled {
-    let all = repeated(run, out, filled);
+// A pattern, and the byte that is put at the place of the turn.
+fn swept(pattern: &[u8], byte: &[u8], turn: usize, out: &mut [u8], filled: Filled) -> Filled {
+    let all = repeated(pattern, out, filled);
     put(out, wrapping_add_usize(filled.length, turn), byte_of(byte));
     let turns = wrapping_sub_usize(all.length, filled.length);
     with_bytes(all, 0, turns, is_number(byte))
 }
 
-fn expand_run(run: &[u8], turn: usize, out: &mut [u8], filled: Filled) -> Filled {
-    if run.len() == 0 {
+fn expand_one(pattern: &[u8], turn: usize, out: &mut [u8], filled: Filled) -> Filled {
+    if pattern.len() == 0 {
         return with_bytes(filled, 0, 0, false);
     }
-    if run[0] == b'*' {
+    if pattern[0] == b'*' {
         put(out, filled.length, (turn % 256) as u8);
         return with_bytes(filled, 1, 256, true);
     }
-    if run[0] == b'#' {
-        put(out, filled.length, byte_of(&run[1..]));
-        return with_bytes(filled, 1, filled.turns, is_number(&run[1..]));
+    if pattern[0] == b'#' {
+        put(out, filled.length, byte_of(&pattern[1..]));
+        return with_bytes(filled, 1, filled.turns, is_number(&pattern[1..]));
     }
-    let sign = find(run, 0, b'@');
-    if sign == run.len() {
-        return repeated(run, out, filled);
+    let sign = find(pattern, 0, b'@');
+    if sign == pattern.len() {
+        return repeated(pattern, out, filled);
     }
     let start = sign + 1;
-    swept(&run[0..sign], &run[start..], turn, out, filled)
+    swept(&pattern[0..sign], &pattern[start..], turn, out, filled)
 }
 
-// The bytes of a slice. Without a run it is empty.
+// The bytes of a slice. Without a pattern it is empty.
 pub fn expand(text: &[u8], turn: usize, out: &mut [u8]) -> Filled {
     let mut filled = Filled {
         length: 0,
@@ -148,7 +148,7 @@ pub fn expand(text: &[u8], turn: usize, out: &mut [u8]) -> Filled {
         let end = find(text, at, b',');
         let start = at;
         at = end + 1;
-        filled = expand_run(&text[start..end], turn, out, filled);
+        filled = expand_one(&text[start..end], turn, out, filled);
     }
     filled
 }

@@ -1,10 +1,10 @@
--- `calls::arguments::runs::find` is safe and ends. Assumes nothing.
+-- `calls::arguments::patterns::find` is safe and ends. Assumes nothing.
 use mathlib.Core.Path.{_≡_}
 use Prim.Native.Nat.{_-_, _≤_}
 use lib.ListN.{length}
 use borrow.Author.Needs.{needs}
-use Rattle.calls.proofs.arguments.runs.find.Statement.{statement}
-use Rattle.calls.proofs.arguments.runs.find.Tie as tie
+use Rattle.calls.proofs.arguments.patterns.find.Statement.{statement}
+use Rattle.calls.proofs.arguments.patterns.find.Tie as tie
 
 abbrev Inv-loop : tie.InvT-loop
 Inv-loop text from byte i₀ i-end i = (i-end ≡ length text) × (from ≤ i) × (i ≤ i-end)
