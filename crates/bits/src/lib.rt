@@ -11,7 +11,7 @@ ghost use lib.ListN.{length};
 ghost use Rattle.bits.specs.Bits.{allBelow, allBinary, bit, bits, bytes, differ, disagreements};
 ghost use Rattle.bits.specs.Numbers.{packed, unpacked};
 
-// Why a call is refused. `crate::refusals::number` gives document 01's number of each.
+// Why a call is refused. `refusals::number` gives document 01's number of each.
 pub enum Refusal {
     // A lent slice is not of the exact length.
     Length { expected: usize, actual: usize },

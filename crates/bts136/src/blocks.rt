@@ -8,6 +8,7 @@ ghost use Rattle.flat_coding.specs.Calls.{FlatWrote};
 ghost use Rattle.flat_coding.specs.Flat.{modeOf};
 ghost use Rattle.flat_dcch.specs.Blocks.{FlatDecoded};
 
+// Codes 109 bits of information into the 260 of a forward block. Refused: 1 for information, then block; 2.
 #[no_mangle]
 pub extern "C" fn bts136_dcch_encode_forward(
     information: &[u8],
@@ -20,6 +21,7 @@ pub extern "C" fn bts136_dcch_encode_forward(
     flat_dcch::encode_forward(information, dvcc, broadcast, block)
 }
 
+// Codes 101 bits of information into the 244 of a normal reverse block. Refused as above.
 #[no_mangle]
 pub extern "C" fn bts136_dcch_encode_reverse_normal(
     information: &[u8],
@@ -32,6 +34,7 @@ pub extern "C" fn bts136_dcch_encode_reverse_normal(
     flat_dcch::encode_reverse_normal(information, dvcc, broadcast, block)
 }
 
+// Codes 79 bits of information into the 200 of an abbreviated reverse block. Refused as above.
 #[no_mangle]
 pub extern "C" fn bts136_dcch_encode_reverse_abbreviated(
     information: &[u8],
@@ -44,6 +47,8 @@ pub extern "C" fn bts136_dcch_encode_reverse_abbreviated(
     flat_dcch::encode_reverse_abbreviated(information, dvcc, broadcast, block)
 }
 
+// Decodes the 260 bits of a forward block to the nearest word and writes its 109 bits of information. corrected is the number of bits in which block and
+// word disagree. Of words equally near, it is the one with a zero at the last place where they differ. Refused: 1 for block, then information; 2; 3.
 #[no_mangle]
 pub extern "C" fn bts136_dcch_decode_forward(
     block: &[u8],
@@ -56,6 +61,7 @@ pub extern "C" fn bts136_dcch_decode_forward(
     flat_dcch::decode_forward(block, dvcc, broadcast, information)
 }
 
+// The same of the 244 bits of a normal reverse block, with 101 of information.
 #[no_mangle]
 pub extern "C" fn bts136_dcch_decode_reverse_normal(
     block: &[u8],
@@ -68,6 +74,7 @@ pub extern "C" fn bts136_dcch_decode_reverse_normal(
     flat_dcch::decode_reverse_normal(block, dvcc, broadcast, information)
 }
 
+// The same of the 200 bits of an abbreviated reverse block, with 79 of information.
 #[no_mangle]
 pub extern "C" fn bts136_dcch_decode_reverse_abbreviated(
     block: &[u8],
@@ -80,6 +87,10 @@ pub extern "C" fn bts136_dcch_decode_reverse_abbreviated(
     flat_dcch::decode_reverse_abbreviated(block, dvcc, broadcast, information)
 }
 
+// Decodes the 260 reliabilities of a forward block and writes 109 bits of information. A positive reliability favours zero, a negative one favours one,
+// and a bit that disagrees costs its size. Costs are summed in doubles, in the original's order; where they are whole numbers of size at most 2^40,
+// nothing rounds and the word is one of least cost, ties as above. In corrected a reliability of zero counts as a received zero. Refused: 1 for block,
+// then information; 3, at once where a reliability is not finite.
 #[no_mangle]
 pub extern "C" fn bts136_dcch_decode_soft_forward(
     block: &[f64],
@@ -92,6 +103,7 @@ pub extern "C" fn bts136_dcch_decode_soft_forward(
     flat_dcch::decode_soft_forward(block, dvcc, broadcast, information)
 }
 
+// The same of the 244 reliabilities of a normal reverse block, with 101 bits of information.
 #[no_mangle]
 pub extern "C" fn bts136_dcch_decode_soft_reverse_normal(
     block: &[f64],
@@ -104,6 +116,7 @@ pub extern "C" fn bts136_dcch_decode_soft_reverse_normal(
     flat_dcch::decode_soft_reverse_normal(block, dvcc, broadcast, information)
 }
 
+// The same of the 200 reliabilities of an abbreviated reverse block, with 79 bits of information.
 #[no_mangle]
 pub extern "C" fn bts136_dcch_decode_soft_reverse_abbreviated(
     block: &[f64],

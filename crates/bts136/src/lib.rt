@@ -21,6 +21,7 @@ ghost use Rattle.flat_coding.specs.Flat.{StepAnswer, flatChecksum, modeOf};
 ghost use Rattle.flat_coding.specs.FlatSearch.{SearchAnswer};
 
 // One step of the code of DCCH, SACCH and VSELP.
+// One step of the code of DCCH, SACCH and VSELP, with 2 coded bits. Refused: 8 for a state above 31, then 2 for an input above 1.
 #[no_mangle]
 pub extern "C" fn bts136_dcch_transition(state: u8, input: u8) -> Step
     ensures { λ r. ⌜ StepAnswer dcch memoryHigh state input r ⌝ }
@@ -29,6 +30,7 @@ pub extern "C" fn bts136_dcch_transition(state: u8, input: u8) -> Step
 }
 
 // One step of the code of FACCH.
+// One step of the code of FACCH, with 4 coded bits. Refused as above.
 #[no_mangle]
 pub extern "C" fn bts136_facch_transition(state: u8, input: u8) -> Step
     ensures { λ r. ⌜ StepAnswer facch memoryHigh state input r ⌝ }
@@ -37,6 +39,7 @@ pub extern "C" fn bts136_facch_transition(state: u8, input: u8) -> Step
 }
 
 // One step of the code of ACELP CC1.
+// One step of the code of ACELP CC1, with 2 coded bits. Refused as above.
 #[no_mangle]
 pub extern "C" fn bts136_acelp_transition(state: u8, input: u8) -> Step
     ensures { λ r. ⌜ StepAnswer acelp memoryLow state input r ⌝ }
@@ -45,6 +48,7 @@ pub extern "C" fn bts136_acelp_transition(state: u8, input: u8) -> Step
 }
 
 // The 16-bit checksum of information under a colour code, complemented for broadcast.
+// The 16-bit checksum of any number of bits under a colour code. Refused: 2.
 #[no_mangle]
 pub extern "C" fn bts136_checksum(information: &[u8], dvcc: u8, broadcast: bool) -> Checksum
     ensures { λ r. ⌜ r ≡ flatChecksum (ofBits (now (information .entry)) (checksumOf (bits (now (information .entry))) dvcc (modeOf broadcast))) ⌝ }
@@ -53,6 +57,7 @@ pub extern "C" fn bts136_checksum(information: &[u8], dvcc: u8, broadcast: bool)
 }
 
 // The 7-bit checksum of a speech frame's information.
+// The 7-bit checksum of any number of a speech frame's bits. Refused: 2.
 #[no_mangle]
 pub extern "C" fn bts136_checksum7(information: &[u8]) -> Checksum
     ensures { λ r. ⌜ r ≡ flatChecksum (ofBits (now (information .entry)) (checksum7Of (bits (now (information .entry))))) ⌝ }
@@ -61,6 +66,8 @@ pub extern "C" fn bts136_checksum7(information: &[u8]) -> Checksum
 }
 
 // The nearest word that ends in five zeros, from state 0, and its disagreements: the bare search of DCCH.
+// The nearest word from state 0 that ends in five zeros: the search of DCCH. coded has 10 to 260 bits, an even number; word gets half as many. Of words
+// equally near, it is the one with a zero at the last place where they differ. Refused: 1 (expected is 260 where coded is wrong), 2.
 #[no_mangle]
 pub extern "C" fn bts136_viterbi(coded: &[u8], word: &mut [u8]) -> Search
     ensures { λ r. ⌜ SearchAnswer (FoundFirst (Terminated (length (now (word .entry)))) (weight (bits (now (coded .entry))))) (now (coded .entry)) (now (word .entry)) (now (word .exit)) r ⌝ }
@@ -69,6 +76,7 @@ pub extern "C" fn bts136_viterbi(coded: &[u8], word: &mut [u8]) -> Search
 }
 
 // A nearest word over all 32 starting memories: the bare search of SACCH.
+// A nearest word over all 32 starting memories: the search of SACCH. Which of equally near ones is not said. Lengths and refusals as above.
 #[no_mangle]
 pub extern "C" fn bts136_viterbi_free(coded: &[u8], word: &mut [u8]) -> Search
     ensures { λ r. ⌜ SearchAnswer (Found (OfLength (length (now (word .entry)))) (freeWeight (bits (now (coded .entry))))) (now (coded .entry)) (now (word .entry)) (now (word .exit)) r ⌝ }

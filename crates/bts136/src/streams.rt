@@ -11,6 +11,7 @@ ghost use Rattle.sacch_encoder.specs.Encoder.{encodeBitsOf, encodeWordOf, fresh
 ghost use Rattle.sacch_receiver.specs.Receiver.{freshReceiver, pushOf, pushWordOf};
 ghost use Rattle.flat_sacch.specs.Flat.{flatField, flatFields, flatMoved, flatReceiver, flatWord, receiverOf};
 
+// The fresh encoder.
 #[no_mangle]
 pub extern "C" fn bts136_sacch_new_encoder() -> SacchEncoder
     ensures { λ r. ⌜ r ≡ freshEncoder ⌝ }
@@ -18,6 +19,7 @@ pub extern "C" fn bts136_sacch_new_encoder() -> SacchEncoder
     flat_sacch::new_encoder()
 }
 
+// The fresh encoder, whatever was given.
 #[no_mangle]
 pub extern "C" fn bts136_sacch_reset(encoder: SacchEncoder) -> SacchEncoder
     ensures { λ r. ⌜ r ≡ freshEncoder ⌝ }
@@ -25,6 +27,7 @@ pub extern "C" fn bts136_sacch_reset(encoder: SacchEncoder) -> SacchEncoder
     flat_sacch::reset(encoder)
 }
 
+// Codes six bits, the first highest, into the next field. Refused: 8; 2 for six bits above 63.
 #[no_mangle]
 pub extern "C" fn bts136_sacch_encode_bits(encoder: SacchEncoder, six: u8) -> Field
     ensures { λ r. ⌜ r ≡ flatField (encodeBitsOf encoder six) ⌝ }
@@ -32,6 +35,7 @@ pub extern "C" fn bts136_sacch_encode_bits(encoder: SacchEncoder, six: u8) -> Fi
     flat_sacch::encode_bits(encoder, six)
 }
 
+// Codes a word into the next eleven fields. message has 48 bits, the first highest. Refused: 8; 2 for a message of 2^48 or more.
 #[no_mangle]
 pub extern "C" fn bts136_sacch_encode_word(
     encoder: SacchEncoder,
@@ -44,6 +48,7 @@ pub extern "C" fn bts136_sacch_encode_word(
     flat_sacch::encode_word(encoder, continuation, message, dvcc)
 }
 
+// Decodes the 132 coded bits of a word to the one nearest word, whatever memory the encoder began with. Refused: 1, 2, 5, 6, 3.
 #[no_mangle]
 pub extern "C" fn bts136_sacch_decode(coded: &[u8], dvcc: u8) -> Word
     ensures { λ r. ⌜ r ≡ flatWord (decoding (decodeArguments (now (coded .entry))) (now (coded .entry)) dvcc) ⌝ }
@@ -51,6 +56,7 @@ pub extern "C" fn bts136_sacch_decode(coded: &[u8], dvcc: u8) -> Word
     flat_sacch::decode(coded, dvcc)
 }
 
+// The fresh receiver.
 #[no_mangle]
 pub extern "C" fn bts136_sacch_new_receiver() -> Receiver
     ensures { λ r. ⌜ r ≡ flatReceiver freshReceiver ⌝ }
@@ -58,6 +64,7 @@ pub extern "C" fn bts136_sacch_new_receiver() -> Receiver
     flat_sacch::new_receiver()
 }
 
+// The fresh receiver, whatever was given: after a gap or a handoff.
 #[no_mangle]
 pub extern "C" fn bts136_sacch_discontinuity(receiver: Receiver) -> Receiver
     ensures { λ r. ⌜ r ≡ flatReceiver freshReceiver ⌝ }
@@ -66,6 +73,8 @@ pub extern "C" fn bts136_sacch_discontinuity(receiver: Receiver) -> Receiver
 }
 
 // A field pushed: Pending, a word, a rejection or a refusal.
+// Pushes the next field of a channel, twelve bits, the first highest. Give the receiver of the last answer. Unlocked, each field from the 22nd is a
+// trial; a word locks, and then each eleventh field is one; a rejection (5, 6, 3) unlocks. Refused: 8; 2 for a field above 4095.
 #[no_mangle]
 pub extern "C" fn bts136_sacch_pushed(receiver: Receiver, field: u16, dvcc: u8) -> Pushed
     ensures { λ r. ⌜ r ≡ flatMoved (pushOf (receiverOf receiver) field dvcc) ⌝ }
@@ -74,6 +83,7 @@ pub extern "C" fn bts136_sacch_pushed(receiver: Receiver, field: u16, dvcc: u8) 
 }
 
 // The same, with a word or nothing as the answer.
+// The same with a word or nothing: a rejection is BTS136_PENDING. Refused as above.
 #[no_mangle]
 pub extern "C" fn bts136_sacch_push(receiver: Receiver, field: u16, dvcc: u8) -> Pushed
     ensures { λ r. ⌜ r ≡ flatMoved (pushWordOf (receiverOf receiver) field dvcc) ⌝ }

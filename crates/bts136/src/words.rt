@@ -9,6 +9,7 @@ ghost use Rattle.facch.specs.Words.{Encoding};
 ghost use Rattle.flat_coding.specs.Calls.{FlatWrote};
 ghost use Rattle.flat_facch.specs.Words.{FlatDecoded};
 
+// Codes a word into 260 bits. message has 48 bits, the first highest. Refused: 1; 2 for a message of 2^48 or more.
 #[no_mangle]
 pub extern "C" fn bts136_facch_encode(
     continuation: bool,
@@ -21,6 +22,7 @@ pub extern "C" fn bts136_facch_encode(
     flat_facch::encode(continuation, message, dvcc, coded)
 }
 
+// The slot that finishes the previous word (even rows) and starts the current one (odd rows), 260 bits each. Refused: 1, 2.
 #[no_mangle]
 pub extern "C" fn bts136_facch_interleave(
     previous: &[u8],
@@ -32,6 +34,7 @@ pub extern "C" fn bts136_facch_interleave(
     flat_facch::interleave(previous, current, slot)
 }
 
+// The word that starts in the first slot and is finished in the second, 260 bits each. Refused: 1, 2.
 #[no_mangle]
 pub extern "C" fn bts136_facch_deinterleave(
     first: &[u8],
@@ -43,6 +46,7 @@ pub extern "C" fn bts136_facch_deinterleave(
     flat_facch::deinterleave(first, second, coded)
 }
 
+// The 130 bits of the word that starts in a slot of 260, at their places of 260; the others are 2. Refused: 1, 2.
 #[no_mangle]
 pub extern "C" fn bts136_facch_observe_start(slot: &[u8], coded: &mut [u8]) -> Written
     ensures { λ r. ⌜ FlatWrote (Observing (now (slot .entry)) Start (now (coded .entry)) (now (coded .exit))) r ⌝ }
@@ -50,6 +54,7 @@ pub extern "C" fn bts136_facch_observe_start(slot: &[u8], coded: &mut [u8]) -> W
     flat_facch::observe_start(slot, coded)
 }
 
+// The same of the word that ends in the slot.
 #[no_mangle]
 pub extern "C" fn bts136_facch_observe_end(slot: &[u8], coded: &mut [u8]) -> Written
     ensures { λ r. ⌜ FlatWrote (Observing (now (slot .entry)) End (now (coded .entry)) (now (coded .exit))) r ⌝ }
@@ -57,6 +62,7 @@ pub extern "C" fn bts136_facch_observe_end(slot: &[u8], coded: &mut [u8]) -> Wri
     flat_facch::observe_end(slot, coded)
 }
 
+// Decodes the 260 bits of a word to the one nearest word. Refused: 1, 2, 5, 3.
 #[no_mangle]
 pub extern "C" fn bts136_facch_decode(coded: &[u8], dvcc: u8) -> Word
     ensures { λ r. ⌜ FlatDecoded (Decoding (decodeArguments (now (coded .entry))) (now (coded .entry)) dvcc) r ⌝ }
@@ -64,6 +70,7 @@ pub extern "C" fn bts136_facch_decode(coded: &[u8], dvcc: u8) -> Word
     flat_facch::decode(coded, dvcc)
 }
 
+// The same, where the byte 2 is a bit that was not observed; disagreements are counted over observed bits. Refused: 1, 2, 4, 5, 3.
 #[no_mangle]
 pub extern "C" fn bts136_facch_decode_erased(coded: &[u8], dvcc: u8) -> Word
     ensures { λ r. ⌜ FlatDecoded (Decoding (erasedArguments (now (coded .entry))) (now (coded .entry)) dvcc) r ⌝ }

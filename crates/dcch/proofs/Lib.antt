@@ -1,9 +1,8 @@
--- The laws.
--- The laws.
-pub mod RoundTrip
-pub mod SoftCells
-pub mod SoftDecodings
-pub mod Finishing
+-- The laws of encoding and decoding, hard and soft, and the round trip.
 pub mod Inputs
 pub mod Encodings
+pub mod Finishing
 pub mod Decodings
+pub mod SoftCells
+pub mod SoftDecodings
+pub mod RoundTrip

@@ -1,4 +1,3 @@
--- DCCH blocks of reliabilities.
--- DCCH blocks: encoding, and decoding of received bits.
-pub mod SoftBlocks
+-- DCCH blocks: encoding, decoding of received bits (Blocks), and of reliabilities (SoftBlocks).
 pub mod Blocks
+pub mod SoftBlocks

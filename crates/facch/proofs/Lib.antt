@@ -1,11 +1,7 @@
--- The laws.
--- The laws.
--- The laws.
--- The laws.
--- The law that joins the definition to the contract of the calls.
-pub mod Settling
+-- The laws of words, of their rotation in the search, and of the answer.
 pub mod WordBits
 pub mod Biting
 pub mod Rotating
 pub mod Turned
+pub mod Settling
 pub mod Meaning

@@ -1,9 +1,5 @@
--- Decoding of FACCH words.
--- FACCH words and their coded bits.
--- What was received.
--- The search for the nearest word.
--- The answer of FACCH's decoding as one definition.
-pub mod Decoding
+-- FACCH words and their coded bits (Words), the nearest word (Search), what the decoders do (Decoding), and their answer as one definition (Answers).
 pub mod Words
 pub mod Search
+pub mod Decoding
 pub mod Answers

@@ -1,6 +1,4 @@
--- The laws.
--- The laws.
--- The laws.
-pub mod Steps
+-- The laws of flat answers.
 pub mod Carried
+pub mod Steps
 pub mod Searches

@@ -1,6 +1,4 @@
--- What the flat functions over `coding` answer.
--- The answers of calls that write bits.
--- What the flat functions over `viterbi` answer.
-pub mod Flat
+-- What the flat functions answer: calls that write bits (Calls), steps and checksums (Flat), the bare searches (FlatSearch).
 pub mod Calls
+pub mod Flat
 pub mod FlatSearch

@@ -1,6 +1,4 @@
--- What a line asks for.
--- The bits of an `F` line.
--- The lines that answer.
+-- What a line asks for (Commands), the bits of an `F` line (Masked), and the lines that answer (Printing).
 pub mod Commands
 pub mod Masked
 pub mod Printing

@@ -1,6 +1,5 @@
--- The laws of the receiver that other crates cite.
--- The laws.
-pub mod Fitting
-pub mod Pushing
+-- The laws of stored rows and of a push.
 pub mod Unrolled
 pub mod Decoded
+pub mod Fitting
+pub mod Pushing

@@ -1,4 +1,3 @@
--- The SACCH receiver.
--- What a receiver has stored.
-pub mod Receiver
+-- What a receiver has stored (Stored), and its calls (Receiver).
 pub mod Stored
+pub mod Receiver

@@ -1,4 +1,4 @@
--- The receiver's calls on values. sacch_stored/specs has its lock and its rows.
+-- The receiver's calls on values. Stored.antt has its lock and its rows.
 use mathlib.Core.Bool.{Bool, false, cond}
 use Prim.Native.Nat.{ℕ, _+_, _%_, min}
 use lib.Dec.{ltb}

@@ -1,13 +1,10 @@
--- The laws.
--- The laws.
--- The laws.
--- The laws.
+-- The laws of replies and totals, and that pieces of an input, however it is cut, come to what is written for the whole.
+pub mod Replying
+pub mod Closing
 pub mod Cut
 pub mod Whole
 pub mod Unread
 pub mod Ended
 pub mod Ending
-pub mod Replying
-pub mod Closing
 pub mod Gathered
 pub mod Stepped

@@ -1,5 +1,5 @@
 -- What a line is answered, and the receiver after it.
--- What it asks for is in parsing/specs; what the decoders answer, in sacch_receiver/specs and facch_answers/specs.
+-- What it asks for is in lines/specs/Commands.antt; what the decoders answer, in sacch_receiver/specs and facch/specs/Answers.antt.
 use mathlib.Core.List.{List}
 use Prim.Native.Nat.{ℕ}
 use Rattle.bits.specs.Refusals.{Answer, accepted, pending, rejected, refused}

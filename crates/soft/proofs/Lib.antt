@@ -1,13 +1,11 @@
--- The laws.
--- The laws.
--- The laws.
+-- The laws of reliabilities, of a step and of the search over doubles.
+pub mod Tests
+pub mod Signs
+pub mod Costs
+pub mod Butterflies
 pub mod Running
 pub mod Tracing
 pub mod ScanOrder
 pub mod RustOrder
 pub mod Exactness
 pub mod Samples
-pub mod Tests
-pub mod Signs
-pub mod Costs
-pub mod Butterflies

@@ -1,8 +1,6 @@
--- The soft-decision search: the Rust's loops (RustOrder), what it finds (Soft).
--- Reliabilities: finite ones, signs, and what a coded bit costs.
--- The trellis of the soft-decision search (Branch) and its steps (Step).
-pub mod RustOrder
-pub mod Soft
+-- Reliabilities and what a coded bit costs (Reliability), the trellis over doubles (Branch) and its steps (Step), the Rust's loops (RustOrder), and what the search finds (Soft).
 pub mod Reliability
 pub mod Branch
 pub mod Step
+pub mod RustOrder
+pub mod Soft

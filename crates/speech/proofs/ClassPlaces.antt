@@ -1,4 +1,4 @@
--- The turns of class two and of the protected bits in a frame: going by runs is going by the standard's list of class-two places. Assumes nothing.
+-- The turns of class two and of the protected bits in a frame: going by ranges is going by the standard's list of class-two places. Assumes nothing.
 use mathlib.Core.Path.{_≡_, refl, sym, ap, ap₂, _∙_}
 use mathlib.Core.Bool.{Bool, true, false, cond, not}
 use mathlib.Core.List.{List, [], _∷_}
@@ -31,14 +31,14 @@ in-frame bounds {n} t e =
           (leb→le _ _ (both-left (leb (getD bounds (k * 2) 0) (getD bounds (k * 2 + 1) 0)) _ p), let q : getD bounds (k * 2 + 1) 0 ≤ 260 = leb→le _ _ (both-right (leb (getD bounds (k * 2) 0) (getD bounds (k * 2 + 1) 0)) _ p) in omega arith);
     }
 
--- ---- the bounds of the code: the runs of class two, and those between them
+-- ---- the bounds of the code: the ranges of class two, and those between them
 abbrev pub turns : List ℕ
 turns = 0 ∷ 1 ∷ 26 ∷ 27 ∷ 52 ∷ 53 ∷ 78 ∷ 79 ∷ 93 ∷ 131 ∷ 156 ∷ 157 ∷ 182 ∷ 183 ∷ 208 ∷ 209 ∷ 223 ∷ 260 ∷ []
 
 abbrev pub between : List ℕ
 between = take 16 (drop 1 turns)
 
--- ---- what the runs hold, by computation on a frame that any function lists
+-- ---- what the ranges hold, by computation on a frame that any function lists
 module _ {A : Type 0} (f : ℕ → A) where
   two-listed : rangesOf turns (listed 260 f) ≡ classTwoOf (listed 260 f)
   unfolding rangesOf listed takenFrom isClassTwo
@@ -54,13 +54,13 @@ module _ {A : Type 0} (f : ℕ → A) where
   merged-listed g h = refl
 
 -- ---- and of any frame
-pub class-two-runs : (frame : List ℕ) → length frame ≡ 260 → rangesOf turns frame ≡ classTwoOf frame
-class-two-runs frame e =
+pub class-two-ranges : (frame : List ℕ) → length frame ≡ 260 → rangesOf turns frame ≡ classTwoOf frame
+class-two-ranges frame e =
     let l : frame ≡ listed 260 (λ i. getD frame i 0) = by-places 0 260 frame e in
     ap (rangesOf turns) l ∙ two-listed (λ i. getD frame i 0) ∙ ap classTwoOf (sym l)
 
-pub protected-runs : (frame : List ℕ) → length frame ≡ 260 → rangesOf between frame ≡ protectedOf frame
-protected-runs frame e =
+pub protected-ranges : (frame : List ℕ) → length frame ≡ 260 → rangesOf between frame ≡ protectedOf frame
+protected-ranges frame e =
     let l : frame ≡ listed 260 (λ i. getD frame i 0) = by-places 0 260 frame e in
     ap (rangesOf between) l ∙ protected-listed (λ i. getD frame i 0) ∙ ap protectedOf (sym l)
 

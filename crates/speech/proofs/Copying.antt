@@ -1,4 +1,4 @@
--- Runs of places: the loops that copy one run, that take the runs of a list, and that put bits into them. Assumes nothing.
+-- Ranges of places: the loops that copy one range, that take the ranges of a list, and that put bits into them. Assumes nothing.
 use mathlib.Core.Path.{_≡_, refl, sym, ap, ap₂, _∙_}
 use mathlib.Core.List.{List, [], _∷_, _++_, append-assoc, append-nil}
 use Prim.Native.Nat.{ℕ, _+_, _-_, _*_, _/_, _<_, _≤_}
@@ -10,7 +10,7 @@ use lib.Seq.{paste, paste-zero, paste-suc, length-paste, take-paste, getD-drop, 
 use Rattle.bits.proofs.Tally.{drop-two}
 use Rattle.speech.specs.Ranges.{Bounds, totalOf, rangesOf, putRanges}
 
--- ---- a run that is copied: i of its bytes are
+-- ---- a range that is copied: i of its bytes are
 pub record Copying (source target₀ target : List ℕ) (start at n i : ℕ) : Type 0 where
   pub low : i ≤ n
   pub so-far : target ≡ paste target₀ at (drop start source) i
@@ -35,7 +35,7 @@ module _ {source target₀ target : List ℕ} {start at n i : ℕ} (c : Copying 
   pub copying-done : n ≤ i → target ≡ paste target₀ at (drop start source) n
   copying-done h = let e : i ≡ n = omega arith in c .so-far ∙ ap (paste target₀ at (drop start source)) e
 
--- ---- the k-th run
+-- ---- the k-th range
 module _ (bounds : List ℕ) {n : ℕ} (b : Bounds bounds n) (k : ℕ) (h : k < length bounds / 2) where
   pub in-bounds : k * 2 + 1 < length bounds
   in-bounds = omega (arith, b .even)
@@ -55,21 +55,21 @@ module _ (bounds : List ℕ) {n : ℕ} (b : Bounds bounds n) (k : ℕ) (h : k < 
   unfolding totalOf
   total-here = ap totalOf here
 
-  pub runs-here : (l : List ℕ) → rangesOf (drop (k * 2) bounds) l
+  pub ranges-here : (l : List ℕ) → rangesOf (drop (k * 2) bounds) l
       ≡ take (getD bounds (k * 2 + 1) 0 - getD bounds (k * 2) 0) (drop (getD bounds (k * 2) 0) l) ++ rangesOf (drop ((k + 1) * 2) bounds) l
   unfolding rangesOf
-  runs-here l = ap (λ (d : List ℕ). rangesOf d l) here
+  ranges-here l = ap (λ (d : List ℕ). rangesOf d l) here
 
   pub put-here : (bits l : List ℕ) → putRanges (drop (k * 2) bounds) bits l
       ≡ putRanges (drop ((k + 1) * 2) bounds) (drop (getD bounds (k * 2 + 1) 0 - getD bounds (k * 2) 0) bits) (paste l (getD bounds (k * 2) 0) bits (getD bounds (k * 2 + 1) 0 - getD bounds (k * 2) 0))
   unfolding putRanges
   put-here bits l = ap (λ (d : List ℕ). putRanges d bits l) here
 
--- no run is left
+-- no range is left
 past : (bounds : List ℕ) {n : ℕ} → Bounds bounds n → (k : ℕ) → k ≤ length bounds / 2 → length bounds / 2 ≤ k → drop (k * 2) bounds ≡ []
 past bounds b k h l = let e : k * 2 ≡ length bounds = omega (arith, b .even) in ap (λ (m : ℕ). drop m bounds) e ∙ drop-length bounds
 
--- ---- the runs of a list: k of them are taken, at places
+-- ---- the ranges of a list: k of them are taken, at places
 pub record Taking (bounds list out : List ℕ) (at k : ℕ) : Type 0 where
   pub low : k ≤ length bounds / 2
   pub size : length out ≡ totalOf bounds
@@ -99,7 +99,7 @@ module _ {bounds list out : List ℕ} {at k : ℕ} (t : Taking bounds list out a
             ap (λ (l : List ℕ). take (at + n) l ++ rangesOf (drop ((k + 1) * 2) bounds) list) e
             ∙ ap (λ (l : List ℕ). l ++ rangesOf (drop ((k + 1) * 2) bounds) list) (take-paste out at (drop a list) n (omega arith) read)
             ∙ append-assoc (take at out) (take n (drop a list)) (rangesOf (drop ((k + 1) * 2) bounds) list)
-            ∙ ap (λ (l : List ℕ). take at out ++ l) (sym (runs-here bounds b k h list)) ∙ t .rest;
+            ∙ ap (λ (l : List ℕ). take at out ++ l) (sym (ranges-here bounds b k h list)) ∙ t .rest;
       }
 
   pub taking-done : length bounds / 2 ≤ k → out ≡ rangesOf bounds list
@@ -109,7 +109,7 @@ module _ {bounds list out : List ℕ} {at k : ℕ} (t : Taking bounds list out a
       let all : length out ≤ at = omega (arith, t .left, ap totalOf none, t .size) in
       sym (take-all at out all) ∙ sym (append-nil (take at out)) ∙ ap (λ (d : List ℕ). take at out ++ rangesOf d list) (sym none) ∙ t .rest
 
--- ---- bits put into the runs of a list: into k of them
+-- ---- bits put into the ranges of a list: into k of them
 pub record Putting (bounds bits list₀ list : List ℕ) (at k : ℕ) : Type 0 where
   pub low : k ≤ length bounds / 2
   pub size : length list ≡ length list₀

@@ -1,9 +1,6 @@
--- VSELP speech frames: their channel bits, the runs of places that the code goes by, and the calls.
--- Runs of places.
--- The inputs of a frame.
--- The places of a frame.
-pub mod Frames
-pub mod Calls
+-- VSELP speech frames: ranges of places (Ranges), the inputs (Inputs), the places of class two and of the protected bits (Classes), the frame (Frames), and what the calls do (Calls).
 pub mod Ranges
 pub mod Inputs
 pub mod Classes
+pub mod Frames
+pub mod Calls

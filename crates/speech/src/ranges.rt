@@ -1,4 +1,4 @@
-// Runs of places, copied whole: specs/Runs.antt.
+// Ranges of places, copied whole: specs/Ranges.antt.
 ghost use mathlib.Core.Path.{_≡_};
 ghost use Prim.Native.Nat.{_+_, _≤_};
 ghost use lib.ListN.{drop, length};
@@ -15,7 +15,7 @@ pub fn copy_range(source: &[u8], start: usize, target: &mut [u8], at: usize, n: 
     }
 }
 
-// Writes the runs of a list between bounds, one after the other.
+// Writes the ranges of a list between bounds, one after the other.
 pub fn take_ranges(bounds: &[usize], list: &[u8], out: &mut [u8])
     requires { ⌜ Bounds (now bounds) (length (now list)) × (length (now out) ≡ totalOf (now bounds)) ⌝ }
     ensures { λ _. ⌜ now (out .exit) ≡ rangesOf (now (bounds .entry)) (now (list .entry)) ⌝ }
@@ -29,7 +29,7 @@ pub fn take_ranges(bounds: &[usize], list: &[u8], out: &mut [u8])
     }
 }
 
-// Writes bits, in order, into the runs of a list between bounds.
+// Writes bits, in order, into the ranges of a list between bounds.
 pub fn put_ranges(bounds: &[usize], bits: &[u8], list: &mut [u8])
     requires { ⌜ Bounds (now bounds) (length (now list)) × (length (now bits) ≡ totalOf (now bounds)) ⌝ }
     ensures { λ _. ⌜ now (list .exit) ≡ putRanges (now (bounds .entry)) (now (bits .entry)) (now (list .entry)) ⌝ }

@@ -1,5 +1,4 @@
--- The laws.
--- The laws.
+-- The laws of the rows, and of the starts that are tried one after the other.
 pub mod Branches
 pub mod Joined
 pub mod Tries

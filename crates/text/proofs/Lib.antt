@@ -1,5 +1,4 @@
--- The laws of characters and shapes.
--- The laws.
+-- The laws of characters and shapes, and of numbers as text.
 pub mod Reading
 pub mod Stored
 pub mod Digits

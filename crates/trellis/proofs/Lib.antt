@@ -1,5 +1,4 @@
--- The laws.
--- The laws.
+-- The theory of the search, and of the list of nearest words.
 pub mod Registers
 pub mod Optimal
 pub mod Order

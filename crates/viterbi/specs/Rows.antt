@@ -1,4 +1,4 @@
--- The rows of branch metrics, by place (places/specs/Places.antt).
+-- The rows of branch metrics, by place (search/specs/Row.antt).
 use mathlib.Core.Path.{_≡_}
 use mathlib.Core.Bool.{Bool}
 use mathlib.Core.List.{List, []}

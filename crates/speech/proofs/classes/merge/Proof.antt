@@ -1,4 +1,4 @@
--- `speech::classes::merge` meets its contract: the runs of class two, and those between them. Assumes nothing.
+-- `speech::classes::merge` meets its contract: the ranges of class two, and those between them. Assumes nothing.
 use mathlib.Core.Path.{refl, ap, _∙_}
 use Rattle.speech.specs.Ranges.{totalOf, putRanges}
 use Rattle.speech.proofs.ClassPlaces.{inside, in-frame, between, merged}

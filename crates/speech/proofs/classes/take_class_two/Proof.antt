@@ -1,7 +1,7 @@
--- `speech::classes::take_class_two` meets its contract: the runs of the table are those of class two. Assumes nothing.
+-- `speech::classes::take_class_two` meets its contract: the ranges of the table are those of class two. Assumes nothing.
 use mathlib.Core.Path.{refl, _∙_}
 use Rattle.speech.specs.Ranges.{totalOf}
-use Rattle.speech.proofs.ClassPlaces.{inside, in-frame, class-two-runs}
+use Rattle.speech.proofs.ClassPlaces.{inside, in-frame, class-two-ranges}
 use borrow.Author.Needs.{needs}
 use Rattle.speech.proofs.classes.take_class_two.Statement.{statement}
 use Rattle.speech.proofs.classes.take_class_two.Tie as tie
@@ -19,7 +19,7 @@ same-length c = search needs
 returns : tie.Need-returns
 returns c =
     let entry = c .before .before .before .before .before .before .before in
-    c .before .before .take-ranges .ensures ∙ class-two-runs (entry .args .frame .now) (entry .pre .0)
+    c .before .before .take-ranges .ensures ∙ class-two-ranges (entry .args .frame .now) (entry .pre .0)
 
 pub take-class-two-spec : {M : Type 1} → statement M
 take-class-two-spec =

@@ -1,7 +1,7 @@
--- `speech::classes::take_protected` meets its contract: the runs between those of class two. Assumes nothing.
+-- `speech::classes::take_protected` meets its contract: the ranges between those of class two. Assumes nothing.
 use mathlib.Core.Path.{refl, _∙_}
 use Rattle.speech.specs.Ranges.{totalOf}
-use Rattle.speech.proofs.ClassPlaces.{inside, in-frame, protected-runs}
+use Rattle.speech.proofs.ClassPlaces.{inside, in-frame, protected-ranges}
 use borrow.Author.Needs.{needs}
 use Rattle.speech.proofs.classes.take_protected.Statement.{statement}
 use Rattle.speech.proofs.classes.take_protected.Tie as tie
@@ -25,7 +25,7 @@ same-length c = search needs
 returns : tie.Need-returns
 returns c =
     let entry = c .before .before .before .before .before .before .before .before in
-    c .before .before .take-ranges .ensures ∙ protected-runs (entry .args .frame .now) (entry .pre .0)
+    c .before .before .take-ranges .ensures ∙ protected-ranges (entry .args .frame .now) (entry .pre .0)
 
 pub take-protected-spec : {M : Type 1} → statement M
 take-protected-spec =

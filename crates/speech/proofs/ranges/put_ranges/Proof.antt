@@ -1,4 +1,4 @@
--- `speech::ranges::put_ranges` meets its contract: the runs passed hold their bits. Assumes nothing.
+-- `speech::ranges::put_ranges` meets its contract: the ranges passed hold their bits. Assumes nothing.
 use mathlib.Core.Path.{_≡_, refl}
 use Prim.Native.Nat.{_-_, _/_}
 use native.Mathlib.Omega.{arith}

@@ -1,4 +1,4 @@
--- `speech::ranges::take_ranges` meets its contract: the runs passed are written. Assumes nothing.
+-- `speech::ranges::take_ranges` meets its contract: the ranges passed are written. Assumes nothing.
 use mathlib.Core.Path.{_≡_, refl, sym, _∙_}
 use Prim.Native.Nat.{_-_, _/_}
 use native.Mathlib.Omega.{arith}
