@@ -1,5 +1,5 @@
 // DCCH blocks (IS-136.1-A 4.4.3 and 5.2.6). Ported from 136-bts, dcch.rs (see NOTICE). The contracts cite specs/.
-pub mod block;
+mod block;
 mod soft_block;
 
 pub use crate::block::Decoded;

@@ -1,7 +1,7 @@
 // FACCH words (IS-54-B 2.7.3.1.1). Ported from 136-bts, facch.rs (see NOTICE). The contracts cite specs/.
 mod decoding;
-pub mod search;
-pub mod word;
+mod search;
+mod word;
 
 pub use crate::word::encode;
 use bits::Refusal;

@@ -2,7 +2,7 @@
 // Ported from 136-bts, sacch.rs, and changed (see NOTICE).
 mod receiver;
 mod state;
-pub mod stored;
+mod stored;
 
 pub use crate::stored::Lock;
 use bits::Refusal;

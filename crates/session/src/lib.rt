@@ -1,8 +1,8 @@
 // A run of the program `frames` between its reads and writes: a line answered and counted where it ends, and the closing lines.
 // specs/Output.antt has what is written for a whole input, as one definition.
 pub mod pieces;
-pub mod replies;
-pub mod totals;
+mod replies;
+mod totals;
 
 use crate::replies::reply_to;
 use crate::totals::Tally;

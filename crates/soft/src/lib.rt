@@ -1,8 +1,8 @@
 // Ported from 136-bts, dcch.rs (see NOTICE): `viterbi_soft`, and the tests and the count of `decode_soft`.
 // The soft-decision search of the DCCH code over doubles: specs/Soft.antt says what it finds.
-pub mod reliability;
+mod reliability;
 mod rows;
-pub mod step;
+mod step;
 
 pub use crate::reliability::abs;
 pub use crate::reliability::all_finite;

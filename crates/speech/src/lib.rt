@@ -1,10 +1,10 @@
 // VSELP speech frames (IS-54-B 2.1.3.3). The contracts cite specs/.
 // Ported from 136-bts, speech.rs, and changed (see NOTICE).
-pub mod classes;
+mod classes;
 mod decoding;
 mod encoding;
-pub mod inputs;
-pub mod ranges;
+mod inputs;
+mod ranges;
 
 use bits::Refusal;
 pub use decoding::decode_candidate;

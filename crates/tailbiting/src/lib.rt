@@ -1,7 +1,7 @@
 // Ported from 136-bts, facch.rs, and changed (see NOTICE).
 // The tail-biting search of the FACCH code, with unobserved bits: specs/TailBiting.antt says what it finds.
 mod rows;
-pub mod starts;
+mod starts;
 
 use crate::starts::search;
 use trellis::Outcome;
