@@ -1,4 +1,4 @@
--- The first n elements of a list, arguments to a call: their number, what they become, and the whole after it. Assumes nothing.
+-- The first n elements of a list, lent to a call: their number, what they become, and the whole after it. Assumes nothing.
 use mathlib.Core.Path.{_≡_, sym, subst, _∙_}
 use mathlib.Core.List.{List, _++_}
 use Prim.Native.Nat.{ℕ, _≤_}
