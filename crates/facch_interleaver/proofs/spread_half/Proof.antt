@@ -25,7 +25,9 @@ same-length c = c .before .before .spread-rows .ensures .size ∙ sym (c .before
 returns : tie.Need-returns
 returns c =
     let start = c .before .before .before .before .before .before .before .before .before .before .before .before in
-    one-half (start .args .half) (c .before .before .before .before .parity-of .ensures .0) (copied-twos (start .args .coded .now) (start .pre .1) (c .before .before .before .before .before .before .before .copy .ensures .1)) (c .before .before .spread-rows .ensures)
+    let at-parity-of = c .before .before .before .before in
+    let at-copy = at-parity-of .before .before .before in
+    one-half (start .args .half) (at-parity-of .parity-of .ensures .0) (copied-twos (start .args .coded .now) (start .pre .1) (at-copy .copy .ensures .1)) (c .before .before .spread-rows .ensures)
 
 pub spread-half-spec : {M : Type 1} → statement M
 spread-half-spec =

@@ -20,7 +20,9 @@ same-length c = search needs
 returns : tie.Need-returns
 returns c =
     let entry = c .before .before .before .before .before .before .before .before .args in
-    decoded-flat (λ m. Decoding (entry .format) (entry .block .now) (entry .dvcc) m (entry .information .now) (c .before .before .before .decode .last .1 .1 .1 .1 .0)) (c .before .before .before .decode .result) (c .before .before .before .before .before .mode-of .ensures) (c .before .before .before .decode .ensures) (c .flat-decoded .ensures)
+    let at-decode = c .before .before .before in
+    let at-mode-of = at-decode .before .before in
+    decoded-flat (λ m. Decoding (entry .format) (entry .block .now) (entry .dvcc) m (entry .information .now) (at-decode .decode .last .1 .1 .1 .1 .0)) (at-decode .decode .result) (at-mode-of .mode-of .ensures) (at-decode .decode .ensures) (c .flat-decoded .ensures)
 
 pub decode-spec : {M : Type 1} → statement M
 decode-spec =

@@ -20,7 +20,9 @@ same-length c = search needs
 returns : tie.Need-returns
 returns c =
     let entry = c .before .before .before .before .before .before .before .before .args in
-    decoded-flat (λ m. SoftDecoding (entry .format) (entry .block .now) (entry .dvcc) m (entry .information .now) (c .before .before .before .decode-soft .last .1 .1 .1 .1 .0)) (c .before .before .before .decode-soft .result) (c .before .before .before .before .before .mode-of .ensures) (c .before .before .before .decode-soft .ensures) (c .flat-decoded .ensures)
+    let at-decode-soft = c .before .before .before in
+    let at-mode-of = at-decode-soft .before .before in
+    decoded-flat (λ m. SoftDecoding (entry .format) (entry .block .now) (entry .dvcc) m (entry .information .now) (at-decode-soft .decode-soft .last .1 .1 .1 .1 .0)) (at-decode-soft .decode-soft .result) (at-mode-of .mode-of .ensures) (at-decode-soft .decode-soft .ensures) (c .flat-decoded .ensures)
 
 pub decode-soft-spec : {M : Type 1} → statement M
 decode-soft-spec =

@@ -20,7 +20,9 @@ same-length c = search needs
 returns : tie.Need-returns
 returns c =
     let entry = c .before .before .before .before .before .before .before .before .args in
-    encoded-flat (λ m. Encoding (entry .format) (entry .information .now) (entry .dvcc) m (entry .block .now) (c .before .before .before .encode .last .1 .1 .1 .1 .0)) (c .before .before .before .encode .result) (c .before .before .before .before .before .mode-of .ensures) (c .before .before .before .encode .ensures) (c .flat-wrote .ensures)
+    let at-encode = c .before .before .before in
+    let at-mode-of = at-encode .before .before in
+    encoded-flat (λ m. Encoding (entry .format) (entry .information .now) (entry .dvcc) m (entry .block .now) (at-encode .encode .last .1 .1 .1 .1 .0)) (at-encode .encode .result) (at-mode-of .mode-of .ensures) (at-encode .encode .ensures) (c .flat-wrote .ensures)
 
 pub encode-spec : {M : Type 1} → statement M
 encode-spec =

@@ -24,9 +24,12 @@ same-length-2 : tie.Need-same-length-2
 same-length-2 c = search needs
 
 returns : tie.Need-returns
-returns c = let l = c .before .before .before .before .before .before .before .before .before .before .before .last-line .ensures in
+returns c =
     let p = c .before .before .put-closing .ensures in
-    (finished (c .before .before .before .before .before .before .before .before .before .before .before .last-line .result) l (p .0), omega (arith, p .0 .kept, p .1, l .room, l .text .kept, c .before .before .before .before .before .before .before .before .before .before .before .before .before .before .before .before .before .pre .1))
+    let at-last-line = c .before .before .before .before .before .before .before .before .before .before .before in
+    let entry = at-last-line .before .before .before .before .before .before in
+    let l = at-last-line .last-line .ensures in
+    (finished (at-last-line .last-line .result) l (p .0), omega (arith, p .0 .kept, p .1, l .room, l .text .kept, entry .pre .1))
 
 pub finish-spec : {M : Type 1} → statement M
 finish-spec =

@@ -56,7 +56,9 @@ same-length c = search needs
 returns : tie.Need-returns
 returns c =
     let start = c .before .before .before .before .before .before .before .before .before .before .before in
-    completed (start .args .word .now) (start .args .header) (start .args .message) (start .pre .0) (start .pre .1) _ (c .before .before .before .before .before .before .before .before .unpack .ensures) _ (c .before .before .before .before .checksum-of-bits .ensures) (c .before .before .unpack2 .ensures)
+    let at-checksum-of-bits = c .before .before .before .before in
+    let at-unpack = at-checksum-of-bits .before .before .before .before in
+    completed (start .args .word .now) (start .args .header) (start .args .message) (start .pre .0) (start .pre .1) _ (at-unpack .unpack .ensures) _ (at-checksum-of-bits .checksum-of-bits .ensures) (c .before .before .unpack2 .ensures)
 
 pub complete-spec : {M : Type 1} → statement M
 complete-spec =

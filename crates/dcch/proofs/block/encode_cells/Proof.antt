@@ -32,7 +32,8 @@ convolutional-encode-requires : tie.Need-convolutional-encode-requires
 convolutional-encode-requires c κs =
     let begin = c .before .before .before .before .before .before .before .before in
     let filled = c .before .before .before .fill-inputs in
-    asks-encode (c .before .before .before .before .before .before .before .before .args .information .now) (c .before .before .before .before .before .before .before .before .pre .0) (c .before .before .before .before .before .before .before .before .pre .1) (begin .args .dvcc) (begin .args .mode) _ _ (filled .kept .1 .1 .0) (filled .ensures) (begin .args .cells .now) (begin .pre .2)
+    let entry = c .before .before .before .before .before .before .before .before in
+    asks-encode (entry .args .information .now) (entry .pre .0) (entry .pre .1) (begin .args .dvcc) (begin .args .mode) _ _ (filled .kept .1 .1 .0) (filled .ensures) (begin .args .cells .now) (begin .pre .2)
 
 same-length : tie.Need-same-length
 same-length c = search needs
@@ -41,7 +42,9 @@ returns : tie.Need-returns
 returns c =
     let begin = c .before .before .before .before .before .before .before .before .before .before .before in
     let filled = c .before .before .before .before .before .before .fill-inputs in
-    cells-coded (c .before .before .before .before .before .before .before .before .before .before .before .args .information .now) (c .before .before .before .before .before .before .before .before .before .before .before .pre .0) (c .before .before .before .before .before .before .before .before .before .before .before .pre .1) (begin .args .dvcc) (begin .args .mode) _ _ (filled .kept .1 .1 .0) (filled .ensures) (c .before .before .before .before .before .before .before .before .checksum-of-bits .ensures) (c .before .before .convolutional-encode .ensures)
+    let at-checksum-of-bits = c .before .before .before .before .before .before .before .before in
+    let entry = at-checksum-of-bits .before .before .before in
+    cells-coded (entry .args .information .now) (entry .pre .0) (entry .pre .1) (begin .args .dvcc) (begin .args .mode) _ _ (filled .kept .1 .1 .0) (filled .ensures) (at-checksum-of-bits .checksum-of-bits .ensures) (c .before .before .convolutional-encode .ensures)
 
 pub encode-cells-spec : {M : Type 1} → statement M
 encode-cells-spec =

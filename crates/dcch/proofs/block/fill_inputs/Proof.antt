@@ -34,7 +34,8 @@ same-length c = search needs
 returns : tie.Need-returns
 returns c =
     let entry = c .before .before .before .before .before .before .before .before .before .before in
-    filled (entry .args .information .now) (entry .pre .0) _ (entry .pre .2) (entry .args .checksum) (c .before .before .before .before .before .before .copy .ensures .1) (c .before .before .unpack .ensures)
+    let at-copy = c .before .before .before .before .before .before in
+    filled (entry .args .information .now) (entry .pre .0) _ (entry .pre .2) (entry .args .checksum) (at-copy .copy .ensures .1) (c .before .before .unpack .ensures)
 
 pub fill-inputs-spec : {M : Type 1} → statement M
 fill-inputs-spec =

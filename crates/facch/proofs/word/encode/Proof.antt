@@ -38,7 +38,10 @@ slice-aggregate-encode-word c = search needs
 encode-word-requires : tie.Need-encode-word-requires
 encode-word-requires c κs =
     let start = c .before .before .before .before .before .before .before .before .before in
-    asks-word (start .args .continuation) (start .args .message) (start .args .dvcc) (c .before .before .before .complete .ensures) _ (c .before .before .before .before .before .before .before .encode-arguments .ensures) (c .before .before .before .before .before .enum-told .given .1)
+    let at-complete = c .before .before .before in
+    let at-enum-told = at-complete .before .before in
+    let at-encode-arguments = at-enum-told .before .before in
+    asks-word (start .args .continuation) (start .args .message) (start .args .dvcc) (at-complete .complete .ensures) _ (at-encode-arguments .encode-arguments .ensures) (at-enum-told .enum-told .given .1)
 
 same-length : tie.Need-same-length
 same-length c = search needs
@@ -46,7 +49,10 @@ same-length c = search needs
 returns-2 : tie.Need-returns-2
 returns-2 c =
     let start = c .before .before .before .before .before .before .before .before .before .before .before .before in
-    done-end (c .before .before .before .before .before .before .before .before .before .before .encode-arguments .ensures) (c .before .before .before .before .before .before .before .before .enum-told .given .1) (word-coded (start .args .continuation) (start .args .message) (start .args .dvcc) (c .before .before .before .before .before .before .complete .ensures) (c .before .before .encode-word .ensures))
+    let at-complete = c .before .before .before .before .before .before in
+    let at-enum-told = at-complete .before .before in
+    let at-encode-arguments = at-enum-told .before .before in
+    done-end (at-encode-arguments .encode-arguments .ensures) (at-enum-told .enum-told .given .1) (word-coded (start .args .continuation) (start .args .message) (start .args .dvcc) (at-complete .complete .ensures) (c .before .before .encode-word .ensures))
 
 pub encode-spec : {M : Type 1} → statement M
 encode-spec =

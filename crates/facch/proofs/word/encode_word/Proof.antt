@@ -47,7 +47,9 @@ part-convolutional-encode-end-2 c = search needs
 convolutional-encode-requires-2 : tie.Need-convolutional-encode-requires-2
 convolutional-encode-requires-2 c κs =
     let start = c .before .before .before .before .before .before .before .before .before .before in
-    asks-first (start .args .word .now) (start .args .coded .now) (start .pre .0) (start .pre .1) (start .pre .2) (c .before .before .before .before .convolutional-encode .last .1 .1 .0) (c .before .before .before .before .convolutional-encode .kept .1 .1 .0) (omega (arith, c .before .before .before .before .convolutional-encode .ensures .below, c .before .before .before .before .before .before .before .start-memory .ensures .0))
+    let at-convolutional-encode = c .before .before .before .before in
+    let at-start-memory = at-convolutional-encode .before .before .before in
+    asks-first (start .args .word .now) (start .args .coded .now) (start .pre .0) (start .pre .1) (start .pre .2) (at-convolutional-encode .convolutional-encode .last .1 .1 .0) (at-convolutional-encode .convolutional-encode .kept .1 .1 .0) (omega (arith, at-convolutional-encode .convolutional-encode .ensures .below, at-start-memory .start-memory .ensures .0))
 
 same-length : tie.Need-same-length
 same-length c = search needs
@@ -55,7 +57,9 @@ same-length c = search needs
 returns : tie.Need-returns
 returns c =
     let start = c .before .before .before .before .before .before .before .before .before .before .before .before .before in
-    bitten (start .args .word .now) (start .args .coded .now) (start .pre .0) (start .pre .1) (start .pre .2) (c .before .before .before .before .before .before .before .convolutional-encode .last .1 .1 .0) (c .before .before .before .before .before .before .before .convolutional-encode .kept .1 .1 .0) (c .before .before .before .before .before .before .before .before .before .before .start-memory .ensures .1) (c .before .before .before .before .before .before .before .convolutional-encode .ensures) (c .before .before .convolutional-encode2 .ensures)
+    let at-convolutional-encode = c .before .before .before .before .before .before .before in
+    let at-start-memory = at-convolutional-encode .before .before .before in
+    bitten (start .args .word .now) (start .args .coded .now) (start .pre .0) (start .pre .1) (start .pre .2) (at-convolutional-encode .convolutional-encode .last .1 .1 .0) (at-convolutional-encode .convolutional-encode .kept .1 .1 .0) (at-start-memory .start-memory .ensures .1) (at-convolutional-encode .convolutional-encode .ensures) (c .before .before .convolutional-encode2 .ensures)
 
 pub encode-word-spec : {M : Type 1} → statement M
 encode-word-spec =

@@ -39,7 +39,10 @@ trial-requires c κs = omega (arith, ap (λ (r : SacchReceiver). r .«row_cursor
 returns-2 : tie.Need-returns-2
 returns-2 c =
     let a = c .before .before .before .before .before .before .before .args in
-    step-complete (a .self) (a .field) (a .dvcc) (c .before .before .before .before .before .before .with-field .ensures) (c .before .before .before .before .before .row .ensures) (c .before .before .before .found .given .1) (c .before .with-row .ensures) (c .trial .ensures)
+    let at-found = c .before .before .before in
+    let at-row = at-found .before .before in
+    let at-with-field = at-row .before in
+    step-complete (a .self) (a .field) (a .dvcc) (at-with-field .with-field .ensures) (at-row .row .ensures) (at-found .found .given .1) (c .before .with-row .ensures) (c .trial .ensures)
 
 pub step-spec : {M : Type 1} → statement M
 step-spec =

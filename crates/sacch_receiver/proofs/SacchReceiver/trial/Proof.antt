@@ -24,7 +24,9 @@ settled-requires c κs = search needs
 returns-2 : tie.Need-returns-2
 returns-2 c =
     let a = c .before .before .before .before .before .before .before .args in
-    tried-now (a .self) (a .dvcc) (omega arith) (sym (c .before .before .before .before .lock-tries .ensures) ∙ c .before .before .before .if2 .taken) (c .before .decode-window .ensures) (c .settled .ensures .0) (c .settled .ensures .1)
+    let at-if2 = c .before .before .before in
+    let at-lock-tries = at-if2 .before in
+    tried-now (a .self) (a .dvcc) (omega arith) (sym (at-lock-tries .lock-tries .ensures) ∙ at-if2 .if2 .taken) (c .before .decode-window .ensures) (c .settled .ensures .0) (c .settled .ensures .1)
 
 returns-3 : tie.Need-returns-3
 unfolding tried

@@ -31,7 +31,9 @@ returns : tie.Need-returns
 returns c =
     let begin = c .before .before .before .before .before .before .before .before .before .before .before .before in
     let back = c .before .before .before .traceback in
-    decides (branchBy (begin .args .rows .now) (begin .args .symbols .now)) _ (begin .pre .0) _ _ _ (c .before .before .before .before .before .before .before .before .forward .ensures) _ (c .before .before .before .before .before .before .lowest-end .ensures)
+    let at-lowest-end = c .before .before .before .before .before .before in
+    let at-forward = at-lowest-end .before .before in
+    decides (branchBy (begin .args .rows .now) (begin .args .symbols .now)) _ (begin .pre .0) _ _ _ (at-forward .forward .ensures) _ (at-lowest-end .lowest-end .ensures)
     _ _ (back .result) (c .either .result) (begin .pre .2) (back .ensures) (c .either .ensures)
 
 pub nearest-free-spec : {M : Type 1} → statement M

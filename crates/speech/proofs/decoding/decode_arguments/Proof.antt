@@ -28,11 +28,14 @@ first-refusal-requires-3 c κs = search needs
 
 returns : tie.Need-returns
 returns c =
+    let at-first-refusal = c .before .before .before .before in
+    let at-only-bits = at-first-refusal .before in
+    let at-exact = at-only-bits .before in
     c .first-refusal3 .ensures
     ∙ ap₂ firstRefusal (c .before .before .before .exact2 .ensures)
     (c .before .first-refusal2 .ensures
     ∙ ap₂ firstRefusal (c .before .before .exact3 .ensures)
-    (c .before .before .before .before .first-refusal .ensures ∙ ap₂ firstRefusal (c .before .before .before .before .before .before .exact .ensures) (c .before .before .before .before .before .only-bits .ensures)))
+    (at-first-refusal .first-refusal .ensures ∙ ap₂ firstRefusal (at-exact .exact .ensures) (at-only-bits .only-bits .ensures)))
 
 pub decode-arguments-spec : {M : Type 1} → statement M
 decode-arguments-spec =

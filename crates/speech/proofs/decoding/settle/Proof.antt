@@ -54,7 +54,11 @@ returns-2 : tie.Need-returns-2
 returns-2 c =
     let entry = c .before .before .before .before .before .before .before .before .before .before .before .before .before .before .before .before .before .before in
     let passed = decode-passed (entry .args .frame .now) (length (entry .args .class-one .now)) (length (entry .args .class-two .now)) (entry .pre) in
-    settled-end (entry .pre) (c .before .before .before .before .before .before .before .before .before .before .before .before .before .nearest-inputs .ensures) (c .before .before .before .before .before .before .before .before .before .before .before .if1 .left) (copied-out (c .before .before .before .before .before .before .before .before .before .before .before .before .before .nearest-inputs .last .1 .0) (entry .args .class-one .now) (passed .1) (c .before .before .before .before .before .before .before .before .copy-range .ensures)) (c .before .before .before .before .take-class-two .ensures) (c .accept .ensures)
+    let at-take-class-two = c .before .before .before .before in
+    let at-copy-range = at-take-class-two .before .before .before .before in
+    let at-if1 = at-copy-range .before .before .before in
+    let at-nearest-inputs = at-if1 .before .before in
+    settled-end (entry .pre) (at-nearest-inputs .nearest-inputs .ensures) (at-if1 .if1 .left) (copied-out (at-nearest-inputs .nearest-inputs .last .1 .0) (entry .args .class-one .now) (passed .1) (at-copy-range .copy-range .ensures)) (at-take-class-two .take-class-two .ensures) (c .accept .ensures)
 
 pub settle-spec : {M : Type 1} → statement M
 settle-spec =

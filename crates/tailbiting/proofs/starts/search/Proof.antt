@@ -36,9 +36,11 @@ loop-holds c =
 visit-requires : tie.Need-visit-requires Inv-loop μ-loop
 visit-requires c κs =
     let begin = c .before .before .before .before .before .before .before .before .before .before .before .before .before in
-    let loop = c .before .before .before .loop in (
+    let loop = c .before .before .before .loop in
+    let at-lowest = c .before .before .before .before .before .before .before .before in
+    let at-lower-bounds = at-lowest .before .before in (
       (begin .pre .0, begin .pre .1, loop .inv .1),
-      ((c .before .before .before .before .before .before .before .before .lowest .ensures, omega arith, c .before .before .before .before .before .before .before .before .before .before .lower-bounds .ensures), loop .inv .2),
+      ((at-lowest .lowest .ensures, omega arith, at-lower-bounds .lower-bounds .ensures), loop .inv .2),
     )
 
 add-turn : tie.Need-add-turn Inv-loop μ-loop
