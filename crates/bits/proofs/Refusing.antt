@@ -23,6 +23,18 @@ pub test-passed : (t : Bool) (why : Refusal) (x : Arguments) → cond t x (Refus
 test-passed true why x e = (refl, e)
 test-passed false why x e = never-both e refl
 
+-- three tests: which two are joined first does not matter
+pub first-refusal-again : (a b c : Arguments) → firstRefusal (firstRefusal a b) c ≡ firstRefusal a (firstRefusal b c)
+first-refusal-again Passed b c = refl
+first-refusal-again (Refused why) b c = refl
+
+-- three lengths, then the symbols of two slices
+pub lengths-then-two : (a b c d e : Arguments) → firstRefusal (firstRefusal (firstRefusal a (firstRefusal b c)) d) e ≡ firstRefusal a (firstRefusal b (firstRefusal c (firstRefusal d e)))
+lengths-then-two (Refused why) b c d e = refl
+lengths-then-two Passed (Refused why) c d e = refl
+lengths-then-two Passed Passed (Refused why) d e = refl
+lengths-then-two Passed Passed Passed d e = refl
+
 pub passed-first : (a b : Arguments) → firstRefusal a b ≡ Passed → (a ≡ Passed) × (b ≡ Passed)
 passed-first Passed b e = (refl, e)
 passed-first (Refused why) b e = never-both e refl

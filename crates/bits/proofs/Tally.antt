@@ -2,13 +2,12 @@
 use mathlib.Core.Path.{_≡_, refl, sym, ap, ap₂, _∙_}
 use mathlib.Core.Bool.{Bool}
 use mathlib.Core.List.{List, [], _∷_, _++_}
-use Prim.Native.Nat.{ℕ, zero, suc, _+_, _<_, _≤_}
+use Prim.Native.Nat.{ℕ, zero, suc, _+_, _<_}
 use native.Mathlib.Omega.{arith}
 use native.Mathlib.Nat.{zero-add, add-assoc}
-use native.Mathlib.Numerals.{add-one}
-use lib.ListN.{length, getD, drop, drop-of-length-le}
+use lib.ListN.{length, getD, drop}
 use lib.Seq.{drop-cons}
-use Rattle.bits.specs.Bits.{tally, bits, bit, disagreements, differ}
+use Rattle.bits.specs.Bits.{tally, disagreements}
 use Rattle.bits.proofs.Binary.{differ-same, differ-none}
 
 module _ {A B : Type 0} (f : A → B → ℕ) where
@@ -29,31 +28,6 @@ drop-two {A} l k d h =
     let e : suc k ≡ k + 1 = omega arith in
     let e2 : suc (suc k) ≡ k + 2 = omega arith in
     drop-cons l k d (omega arith) ∙ ap (λ (r : List A). getD l k d ∷ r) (drop-cons l (suc k) d (omega arith) ∙ ap₂ (λ (i j : ℕ). getD l i d ∷ drop j l) e e2)
-
--- ---- the loop of `count_disagreements`: n places differ in the first k
-pub record Counting (a b : List ℕ) (n k : ℕ) : Type 0 where
-  pub low : k ≤ length a
-  pub few : n ≤ k
-  pub rest : n + disagreements (bits (drop k a)) (bits (drop k b)) ≡ disagreements (bits a) (bits b)
-
-pub counting-none : (a b : List ℕ) → Counting a b 0 0
-counting-none a b = record { low = omega arith; few = omega arith; rest = zero-add (disagreements (bits a) (bits b)) }
-
-module _ {a b : List ℕ} {n k : ℕ} (i : Counting a b n k) where
-  pub counting-more : (m : ℕ) → k < length a → length a ≡ length b → m ≤ 1 → m ≡ differ (bit (getD a k 0)) (bit (getD b k 0)) → Counting a b (n + m) (k + 1)
-  unfolding tally
-  counting-more m h l few e =
-      let t : disagreements (bits (drop k a)) (bits (drop k b)) ≡ differ (bit (getD a k 0)) (bit (getD b k 0)) + disagreements (bits (drop (suc k) a)) (bits (drop (suc k) b)) =
-      ap₂ (λ (u w : List ℕ). disagreements (bits u) (bits w)) (drop-cons a k 0 h) (drop-cons b k 0 (omega arith)) in
-      let s : disagreements (bits (drop (k + 1) a)) (bits (drop (k + 1) b)) ≡ disagreements (bits (drop (suc k) a)) (bits (drop (suc k) b)) =
-      ap (λ (j : ℕ). disagreements (bits (drop j a)) (bits (drop j b))) (add-one k) in
-      record { low = omega arith; few = omega (arith, i .few); rest = omega (arith, i .rest) }
-
-  pub counting-done : length a ≤ k → n ≡ disagreements (bits a) (bits b)
-  unfolding tally
-  counting-done h =
-      let e : disagreements (bits (drop k a)) (bits (drop k b)) ≡ 0 = ap (λ (u : List ℕ). disagreements (bits u) (bits (drop k b))) (drop-of-length-le a h) in
-      omega (arith, i .rest)
 
 -- ---- lists of bits that differ nowhere are the same
 pub disagreements-self : (u : List Bool) → disagreements u u ≡ 0

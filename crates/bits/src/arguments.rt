@@ -1,7 +1,8 @@
 // Whether a call can go on with its arguments: each length in their order, then the symbols. specs/Arguments.antt has the tests.
 use crate::Refusal;
-use crate::all_binary;
+use crate::all_below;
 ghost use mathlib.Core.Path.{_≡_};
+ghost use Rattle.bits.specs.Bits.{allBelow};
 ghost use Rattle.bits.specs.Arguments.{belowOf, binaryOf, bitsAndRoom, exactBits, exactOf, firstRefusal, symbolUnless, twoAndRoom};
 
 pub enum Arguments {
@@ -42,11 +43,21 @@ pub fn symbol_unless(passed: bool) -> Arguments
     Arguments::Refused(Refusal::Symbol)
 }
 
-// Refused where a byte is no bit.
-pub fn only_bits(s: &[u8]) -> Arguments
-    ensures { λ r. ⌜ r ≡ binaryOf (now (s .entry)) ⌝ }
+// The symbols of a slice, after other tests. Where one of these is not passed no byte is read: the length may be that of no memory.
+pub fn then_below(earlier: Arguments, limit: u8, s: &[u8]) -> Arguments
+    ensures { λ r. ⌜ r ≡ firstRefusal earlier (symbolUnless (allBelow limit (now (s .entry)))) ⌝ }
 {
-    symbol_unless(all_binary(s))
+    if let Arguments::Refused(why) = earlier {
+        return Arguments::Refused(why);
+    }
+    symbol_unless(all_below(limit, s))
+}
+
+// The same for bits.
+pub fn then_bits(earlier: Arguments, s: &[u8]) -> Arguments
+    ensures { λ r. ⌜ r ≡ firstRefusal earlier (binaryOf (now (s .entry))) ⌝ }
+{
+    then_below(earlier, 2, s)
 }
 
 // Refused where a number is not below its limit.
@@ -60,17 +71,15 @@ pub fn below(limit: u64, x: u64) -> Arguments
 pub fn exact_bits(wanted: usize, s: &[u8]) -> Arguments
     ensures { λ r. ⌜ r ≡ exactBits wanted (now (s .entry)) ⌝ }
 {
-    let length = exact(wanted, s.len());
-    first_refusal(length, only_bits(s))
+    then_bits(exact(wanted, s.len()), s)
 }
 
 // So many bits, and room for so many of the result: both lengths, then the symbols.
 pub fn bits_and_room(wanted: usize, s: &[u8], wanted_room: usize, room: usize) -> Arguments
     ensures { λ r. ⌜ r ≡ bitsAndRoom wanted (now (s .entry)) «wanted_room» room ⌝ }
 {
-    let length = exact(wanted, s.len());
-    let space = exact(wanted_room, room);
-    first_refusal(length, first_refusal(space, only_bits(s)))
+    let lengths = first_refusal(exact(wanted, s.len()), exact(wanted_room, room));
+    then_bits(lengths, s)
 }
 
 // So many bits, so many more, and room for the result: each length, then the symbols.
@@ -84,8 +93,7 @@ pub fn two_and_room(
 ) -> Arguments
     ensures { λ r. ⌜ r ≡ twoAndRoom wanted (now (a .entry)) «wanted_second» (now (b .entry)) «wanted_room» room ⌝ }
 {
-    let symbols = first_refusal(only_bits(a), only_bits(b));
-    let space = first_refusal(exact(wanted_room, room), symbols);
-    let second = first_refusal(exact(wanted_second, b.len()), space);
-    first_refusal(exact(wanted, a.len()), second)
+    let later = first_refusal(exact(wanted_second, b.len()), exact(wanted_room, room));
+    let lengths = first_refusal(exact(wanted, a.len()), later);
+    then_bits(then_bits(lengths, a), b)
 }

@@ -8,7 +8,7 @@ ghost use mathlib.Core.Path.{_≡_};
 ghost use mathlib.Core.Bool.{true, _&&_};
 ghost use Prim.Native.Nat.{_<_, _≤_};
 ghost use lib.ListN.{length};
-ghost use Rattle.bits.specs.Bits.{allBelow, allBinary, bit, bits, bytes, differ, disagreements};
+ghost use Rattle.bits.specs.Bits.{allBelow, allBinary, bit, bits, bytes, differ};
 ghost use Rattle.bits.specs.Numbers.{packed, unpacked};
 
 // Why a call is refused. `refusals::number` gives document 01's number of each.
@@ -94,16 +94,4 @@ pub fn differs(a: u8, b: u8) -> u8
     ensures { λ r. ⌜ (r ≡ differ (bit a) (bit b)) × (r ≤ 1) ⌝ }
 {
     if a == b { 0 } else { 1 }
-}
-
-// In how many places two lists of bits differ.
-pub fn count_disagreements(a: &[u8], b: &[u8]) -> usize
-    requires { ⌜ (length (now a) ≡ length (now b)) × (allBinary (now a) ≡ true) × (allBinary (now b) ≡ true) ⌝ }
-    ensures { λ r. ⌜ r ≡ disagreements (bits (now (a .entry))) (bits (now (b .entry))) ⌝ }
-{
-    let mut n = 0;
-    for i in 0..a.len() {
-        n += wide(differs(a[i], b[i]));
-    }
-    n
 }

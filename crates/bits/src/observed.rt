@@ -1,29 +1,19 @@
 // Received bits, of which some were not observed: bytes 0 and 1, and 2 for one that was not. The contracts cite specs/Observed.antt.
-use crate::all_below;
 use crate::arguments::Arguments;
 use crate::arguments::exact;
-use crate::arguments::first_refusal;
-use crate::arguments::symbol_unless;
+use crate::arguments::then_below;
 use crate::differs;
 ghost use mathlib.Core.Path.{_≡_};
 ghost use Prim.Native.Nat.{_<_, _≤_};
 ghost use lib.ListN.{length};
 ghost use Rattle.bits.specs.Bits.{bit};
-ghost use Rattle.bits.specs.Observed.{erasableOf, erasedDiffer, exactErasable, observedCount, observedOne};
-
-// Refused where a byte is above 2.
-fn only_erasable(s: &[u8]) -> Arguments
-    ensures { λ r. ⌜ r ≡ erasableOf (now (s .entry)) ⌝ }
-{
-    symbol_unless(all_below(3, s))
-}
+ghost use Rattle.bits.specs.Observed.{erasedDiffer, exactErasable, observedCount, observedOne};
 
 // So many bytes 0, 1 and 2: the length, then the symbols.
 pub fn exact_erasable(wanted: usize, s: &[u8]) -> Arguments
     ensures { λ r. ⌜ r ≡ exactErasable wanted (now (s .entry)) ⌝ }
 {
-    let length = exact(wanted, s.len());
-    first_refusal(length, only_erasable(s))
+    then_below(exact(wanted, s.len()), 3, s)
 }
 
 // 1 where an observed bit reads otherwise than the coded bit.

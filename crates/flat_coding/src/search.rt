@@ -4,7 +4,7 @@ use bits::Refusal;
 use bits::arguments::Arguments;
 use bits::arguments::exact;
 use bits::arguments::first_refusal;
-use bits::arguments::only_bits;
+use bits::arguments::then_bits;
 ghost use mathlib.Core.Path.{_≡_};
 ghost use lib.ListN.{length};
 ghost use Rattle.bits.specs.Bits.{bits};
@@ -29,10 +29,8 @@ fn search_refusal(coded: &[u8], steps: usize) -> Arguments
 {
     let length = coded.len();
     let block = pairs(length);
-    first_refusal(
-        block,
-        first_refusal(exact(length / 2, steps), only_bits(coded)),
-    )
+    let lengths = first_refusal(block, exact(length / 2, steps));
+    then_bits(lengths, coded)
 }
 
 // Refused where a length is no number of pairs from 5 to 130.

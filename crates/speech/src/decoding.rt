@@ -11,7 +11,7 @@ use bits::Refusal;
 use bits::arguments::Arguments;
 use bits::arguments::exact;
 use bits::arguments::first_refusal;
-use bits::arguments::only_bits;
+use bits::arguments::then_bits;
 use bits::pack;
 use trellis::Outcome;
 ghost use mathlib.Core.Bool.{true};
@@ -27,11 +27,9 @@ ghost use Rattle.speech.specs.Calls.{Decoding, decodeAnswer, frameWeight
 fn decode_arguments(frame: &[u8], room_one: usize, room_two: usize) -> Arguments
     ensures { λ r. ⌜ r ≡ decodeArguments (now (frame .entry)) «room_one» «room_two» ⌝ }
 {
-    let later = first_refusal(exact(82, room_two), only_bits(frame));
-    first_refusal(
-        exact(260, frame.len()),
-        first_refusal(exact(77, room_one), later),
-    )
+    let rooms = first_refusal(exact(77, room_one), exact(82, room_two));
+    let lengths = first_refusal(exact(260, frame.len()), rooms);
+    then_bits(lengths, frame)
 }
 
 // Writes the nearest inputs.
