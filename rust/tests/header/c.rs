@@ -26,7 +26,13 @@ pub fn run(command: &mut Command) -> String {
         .output()
         .unwrap_or_else(|why| panic!("{command:?}: {why}"));
     let error = String::from_utf8_lossy(&answer.stderr);
-    assert!(answer.status.success(), "{command:?}\n{error}");
+    let printed = String::from_utf8_lossy(&answer.stdout);
+    let last = printed.lines().last().unwrap_or("nothing");
+    let status = answer.status;
+    assert!(
+        status.success(),
+        "{command:?}, {status}, after {last}\n{error}"
+    );
     String::from_utf8(answer.stdout).unwrap()
 }
 
@@ -54,7 +60,7 @@ impl Program {
         self.lines.contains(&format!("{name}("))
     }
     fn source(&self, before: &str) -> String {
-        let includes = "#include <inttypes.h>\n#include <stdio.h>\n#include \"bts136.h\"\n";
+        let includes = "#define _DEFAULT_SOURCE\n#include <inttypes.h>\n#include <stdio.h>\n#include \"bts136.h\"\n";
         let lines = &self.lines;
         format!("{includes}{before}\nint main(void) {{\n{lines}    return 0;\n}}\n")
     }

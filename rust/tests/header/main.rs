@@ -3,3 +3,4 @@ mod c;
 mod calls;
 mod functions;
 mod layout;
+mod lengths;
