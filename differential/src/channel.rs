@@ -63,7 +63,13 @@ impl Channel {
         self.wire(&self.coded(p, kind))
     }
     pub fn encode(self, information: &[u8], block: &mut [u8]) -> Block {
-        Block::of(port::dcch_encode(self.format, information, self.dvcc, self.broadcast(), block))
+        Block::of(port::dcch_encode(
+            self.format,
+            information,
+            self.dvcc,
+            self.broadcast(),
+            block,
+        ))
     }
     pub fn decode(self, block: &[u8], information: &mut [u8]) -> Block {
         port::dcch_decode(self.format, block, self.dvcc, self.broadcast(), information)

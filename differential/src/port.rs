@@ -37,8 +37,17 @@ refused!(FacchWord, SacchWord, Frame);
 
 impl Of<Written> for Block {
     fn of(written: Written) -> Self {
-        let Written { refusal, expected, actual } = written;
-        Block { refusal, expected, actual, corrected: 0 }
+        let Written {
+            refusal,
+            expected,
+            actual,
+        } = written;
+        Block {
+            refusal,
+            expected,
+            actual,
+            corrected: 0,
+        }
     }
 }
 
