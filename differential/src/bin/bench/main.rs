@@ -1,8 +1,10 @@
 //! Times the port against the Rust and, where it is installed, libosmocore: the same inputs, one
 //! run, samples by turns. The last column is each one's median over the port's. Inputs and buffers
-//! are made before; what the Rust allocates in a call is its own.
+//! are made before; what the Rust allocates in a call is its own. Times are the processor's; how much
+//! longer the wall clock took is told at the end, on standard error.
 //!
-//! `bench list` prints the names, `bench NAME N` makes N calls of one, for an instruction counter.
+//! `bench only PART` times the cases whose names have that part, `bench list` prints the names, and
+//! `bench NAME N` makes N calls of one, for an instruction counter.
 mod facch;
 mod sacch;
 mod speech;
@@ -43,11 +45,15 @@ fn main() {
     let words: Vec<&str> = words.iter().map(String::as_str).collect();
     match words[..] {
         [] => compare(&mut cases),
+        ["only", part] => {
+            cases.retain(|case| case.name.contains(part));
+            compare(&mut cases);
+        }
         ["list"] => list(&cases),
         [name, count] if count.parse::<usize>().is_ok() => {
             repeat(&mut cases, name, count.parse().unwrap());
         }
-        _ => stop("bench, bench list, or bench NAME N"),
+        _ => stop("bench, bench only PART, bench list, or bench NAME N"),
     }
 }
 
@@ -61,9 +67,11 @@ fn compare(cases: &mut [Case]) {
         "{:<31} {:<14} {:>10} {:>10} {:>10}",
         "case", "who", "least ns", "median ns", "over port"
     );
+    let mut waited = 0.0_f64;
     for case in cases {
         let times = times(&mut case.contenders);
         for (contender, time) in case.contenders.iter().zip(&times) {
+            waited = waited.max(time.waited);
             println!(
                 "{:<31} {:<14} {:>10.1} {:>10.1} {:>10.2}",
                 case.name,
@@ -74,6 +82,7 @@ fn compare(cases: &mut [Case]) {
             );
         }
     }
+    eprintln!("the wall clock took at most {waited:.2} times the processor's time");
 }
 
 fn full_name(case: &str, contender: &Contender) -> String {
