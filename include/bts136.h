@@ -2,14 +2,18 @@
  * The channel codecs of IS-136 (DCCH, FACCH, SACCH, ACELP CC1, VSELP), proved in Rattle. `rt staticlib bts136` builds the library,
  * target/staticlib/libbts136.a, which needs memcpy and memset and nothing else.
  *
- * Bits are bytes 0 and 1, first sent first. A slice is a pointer and its length: the pointer is not null and is to as many elements as
- * the length says, and slices of one call do not overlap. The library allocates nothing, keeps no pointer and has no state of its own:
- * it may be called from any thread. `dvcc` is the colour code, any byte. `broadcast` says that the checksum is complemented.
+ * Bits are bytes 0 and 1, first sent first. A slice is a pointer and its length: the pointer is to as many elements as the length says,
+ * and may be null where that is 0; slices of one call do not overlap. Where a length is not the right one nothing is read, so that a
+ * wrong length is refused and no crash. The library allocates nothing, keeps no pointer and has no state of its own: it may be called
+ * from any thread. No call takes more than 20,000 bytes of stack. The slowest, a FACCH word of noise, takes some 20 microseconds on one
+ * core of an x86-64 machine; every other call 4 or less. `dvcc` is the colour code, any byte. `broadcast` says that the checksum is
+ * complemented.
  *
  * Every call answers any input. `refusal` is 0 where it is accepted, else a number of `enum bts136_refusal`. What is wrong is looked
  * for in this order: every length in the order of the arguments, the state, the symbols; then what a search tells: 4, 5, 6, 3. On a
  * refusal nothing is written, states come back as they were, and every other field of the answer is 0, but for `expected` and `actual`
- * where the number is 1.
+ * where the number is 1. A rejection (BTS136_REJECTED, with 3, 5 or 6 in a push) is no refusal: the receiver has moved, and the one that
+ * comes back is the one to go on with.
  */
 #ifndef BTS136_H
 #define BTS136_H

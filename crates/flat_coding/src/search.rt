@@ -27,24 +27,24 @@ pub struct Search {
 fn search_refusal(coded: &[u8], steps: usize) -> Arguments
     ensures { λ r. ⌜ r ≡ searchArguments (now (coded .entry)) steps ⌝ }
 {
-    let length = coded.len();
-    let block = pairs(length);
-    let lengths = first_refusal(block, exact(length / 2, steps));
+    let given = coded.len();
+    let block = pairs(given);
+    let lengths = first_refusal(block, exact(given / 2, steps));
     then_bits(lengths, coded)
 }
 
 // Refused where a length is no number of pairs from 5 to 130.
-fn pairs(length: usize) -> Arguments
-    ensures { λ r. ⌜ r ≡ pairArguments length ⌝ }
+fn pairs(given: usize) -> Arguments
+    ensures { λ r. ⌜ r ≡ pairArguments given ⌝ }
 {
-    if length < 10 {
-        return exact(260, length);
+    if given < 10 {
+        return exact(260, given);
     }
-    if 260 < length {
-        return exact(260, length);
+    if 260 < given {
+        return exact(260, given);
     }
-    if length % 2 == 1 {
-        return exact(260, length);
+    if given % 2 == 1 {
+        return exact(260, given);
     }
     Arguments::Passed
 }

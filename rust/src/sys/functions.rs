@@ -1,8 +1,8 @@
 //! The functions of the archive.
 //!
-//! A slice is a pointer and its length. Safety, for each of them: the pointer is not null and is to
-//! as many elements as the length says, and slices of one call do not overlap. Any bytes and any
-//! lengths will do; what does not fit is refused.
+//! A slice is a pointer and its length. Safety, for each of them: the pointer is to as many elements
+//! as the length says (it may be null where that is 0), and slices of one call do not overlap. Any
+//! bytes and any lengths will do; what does not fit is refused.
 #![allow(clippy::missing_safety_doc)]
 use super::records::*;
 

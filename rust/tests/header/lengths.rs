@@ -24,7 +24,7 @@ struct Slice {
 }
 
 /// The right length of a slice, as the header tells it.
-fn right(function: &str, name: &str) -> usize {
+pub fn right(function: &str, name: &str) -> usize {
     let (information, block) = match function {
         _ if function.ends_with("forward") => (109, 260),
         _ if function.ends_with("reverse_normal") => (101, 244),

@@ -4,3 +4,4 @@ mod calls;
 mod functions;
 mod layout;
 mod lengths;
+mod stack;
