@@ -1,13 +1,13 @@
 -- What `decode` and `nearest_word` ask of their calls, and what they answer. Assumes nothing.
-use mathlib.Core.Path.{_≡_, refl, sym, ap, ap₂, subst, _∙_}
+use mathlib.Core.Path.{_≡_, refl, sym, ap, subst, _∙_}
 use mathlib.Core.Bool.{Bool, true, false}
 use mathlib.Core.List.{List, _++_, reverse}
-use Prim.Native.Nat.{ℕ, _+_, _*_, _/_, _<_, _≤_}
+use Prim.Native.Nat.{ℕ, _+_, _*_, _/_, _≤_}
 use native.Mathlib.Omega.{arith}
-use lib.ListN.{length, take, drop, replicate, length-map}
+use lib.ListN.{length, take, drop, replicate}
 use lib.Seq.{length-take-le}
-use Rattle.bits.specs.Bits.{byte, bits, bytes, allBinary}
-use Rattle.bits.specs.Refusals.{accepted, refused}
+use Rattle.bits.specs.Bits.{bits, allBinary}
+use Rattle.bits.specs.Refusals.{refused}
 use Rattle.bits.specs.declared.arguments.Arguments.{Arguments}
 use Rattle.bits.specs.declared.arguments.Arguments.the-variants.{Passed, Refused}
 use Rattle.bits.specs.declared.Refusal.{Refusal}
@@ -24,11 +24,11 @@ use Rattle.dcch.specs.declared.block.Decoded.{Decoded}
 use Rattle.dcch.specs.declared.block.Decoded.the-variants as answer
 use Rattle.dcch_interleaver.specs.Formats.{encodedBits, informationBits}
 use Rattle.dcch_interleaver.specs.Wire.{deinterleaved}
-use Rattle.dcch.specs.Blocks.{decodeArguments, FoundWord, Finished, Settled, Decoding}
+use Rattle.dcch.specs.Blocks.{decodeArguments, FoundWord, Finished, Decoding}
 use Rattle.dcch_interleaver.proofs.Interleaved.{bits-deinterleaved, binary-deinterleaved}
 use Rattle.dcch.proofs.Encodings.{format-sizes}
 
-half-bits : (f : BlockFormat) → encodedBits f / 2 ≡ informationBits f + 21
+pub half-bits : (f : BlockFormat) → encodedBits f / 2 ≡ informationBits f + 21
 half-bits f = omega (arith, format-sizes f .0)
 
 -- ---- `nearest_word`: the first n of 260 zeros become the cells

@@ -1,24 +1,24 @@
 -- The search of a block's reliabilities, cell by cell: what its calls are asked, and the end of the decoding. Assumes nothing.
-use mathlib.Core.Path.{_≡_, refl, sym, ap, subst, _∙_}
-use mathlib.Core.Bool.{Bool, true, false}
+use mathlib.Core.Path.{_≡_, sym, ap, subst, _∙_}
+use mathlib.Core.Bool.{Bool, true}
 use mathlib.Core.List.{List, _++_, reverse}
 use Prim.Native.Nat.{ℕ, _+_, _*_, _<_, _≤_}
 use native.Mathlib.Omega.{arith}
 use lib.ListN.{length, take, drop, replicate}
 use lib.Seq.{length-take-le}
 use lib.Ieee.{Float}
-use Rattle.bits.specs.Bits.{bits, bytes, allBinary}
+use Rattle.bits.specs.Bits.{bits, allBinary}
 use Rattle.bits.proofs.Binary.{bits-bytes, binary-bytes}
 use Rattle.bits.proofs.LentPart.{became, became-length}
 use Rattle.coding.specs.Codes.{coded, dcch}
 use Rattle.coding.specs.Registers.{memoryHigh}
 use Rattle.coding.specs.Runs.{Encoded}
 use Rattle.checksums.specs.declared.CrcMode.{CrcMode}
-use Rattle.soft.specs.Reliability.{signCount}
+use Rattle.soft.specs.Reliability.{allFinite, signCount}
 use Rattle.soft.specs.Soft.{SoftFound}
 use Rattle.dcch.specs.declared.block.Decoded.{Decoded}
 use Rattle.dcch.specs.Blocks.{Finished}
-use Rattle.dcch.specs.SoftBlocks.{signsOf, SoftEnd}
+use Rattle.dcch.specs.SoftBlocks.{signsOf, CellsSearched}
 
 -- ---- `count_signs`: the first places of 260 zeros become the coded bits
 module _ (word : List ℕ) (values : List Float) (binary : allBinary word ≡ true) (small : length word ≤ 130) (twice : length values ≡ length word * 2) where
@@ -46,12 +46,12 @@ module _ (word : List ℕ) (values : List Float) (binary : allBinary word ≡ tr
         c ∙ ap (λ (u : List Bool). signCount u values) (ap bits (out-part ∙ e .bits) ∙ bits-bytes (coded dcch (memoryHigh 0) (bits word)))
 
 -- ---- `search_cells`: the first places of 130 zeros become the word
-module _ (values : List Float) (information : List ℕ) (small : length information ≤ 109) (twice : length values ≡ (length information + 21) * 2) where
+module _ (values : List Float) (information : List ℕ) (small : length information ≤ 109) (twice : length values ≡ (length information + 21) * 2) (all : allFinite values ≡ true) where
   pub asks-soft : (5 ≤ length (take {A = ℕ} (length information + 21) (replicate 130 0))) × (length (take {A = ℕ} (length information + 21) (replicate 130 0)) ≤ 130)
-      × (length values ≡ length (take {A = ℕ} (length information + 21) (replicate 130 0)) * 2)
+      × (length values ≡ length (take {A = ℕ} (length information + 21) (replicate 130 0)) * 2) × (allFinite values ≡ true)
   asks-soft =
       let l : length (take {A = ℕ} (length information + 21) (replicate 130 0)) ≡ length information + 21 = length-take-le {A = ℕ} (length information + 21) (replicate 130 0) (omega arith) in
-      (omega arith, omega arith, omega arith)
+      (omega arith, omega arith, omega arith, all)
 
   module _ (word : List ℕ) (kept : length word ≡ length (take {A = ℕ} (length information + 21) (replicate 130 0)))
       (g : SoftFound values (length (take {A = ℕ} (length information + 21) (replicate 130 0))) word) where
@@ -76,7 +76,7 @@ module _ (values : List Float) (information : List ℕ) (small : length informat
     pub soft-end : {dvcc corrected : ℕ} {mode : CrcMode} {information′ : List ℕ} {r : Decoded}
         → corrected ≡ signsOf (bits (take (length information + 21) (word ++ drop {A = ℕ} (length information + 21) (replicate 130 0)))) values
         → Finished (bits (take (length information + 21) (word ++ drop {A = ℕ} (length information + 21) (replicate 130 0)))) corrected dvcc mode information information′ r
-        → SoftEnd values dvcc mode information information′ r
+        → CellsSearched signsOf values dvcc mode information information′ r
     soft-end {dvcc} {corrected} {mode} {information′} {r} ec h =
         let e : bits (take (length information + 21) (word ++ drop {A = ℕ} (length information + 21) (replicate 130 0))) ≡ reverse (g .word) = ap bits (part ∙ g .written) ∙ bits-bytes (reverse (g .word)) in
         let n : length (take {A = ℕ} (length information + 21) (replicate 130 0)) ≡ length information + 21 = length-take-le {A = ℕ} (length information + 21) (replicate 130 0) (omega arith) in
@@ -84,15 +84,13 @@ module _ (values : List Float) (information : List ℕ) (small : length informat
         ended e g'
       where
         ended : bits (take (length information + 21) (word ++ drop {A = ℕ} (length information + 21) (replicate 130 0))) ≡ reverse (g .word)
-            → SoftFound values (length information + 21) word → SoftEnd values dvcc mode information information′ r
+            → SoftFound values (length information + 21) word → CellsSearched signsOf values dvcc mode information information′ r
         ended e g' =
             let same : reverse (g .word) ≡ reverse (g' .word) = sym (bits-bytes (reverse (g .word))) ∙ ap bits (sym (g .written) ∙ g' .written) ∙ bits-bytes (reverse (g' .word)) in
             let q : bits (take (length information + 21) (word ++ drop {A = ℕ} (length information + 21) (replicate 130 0))) ≡ reverse (g' .word) = e ∙ same in
             record {
-              word = g' .word;
-              survivor = g' .survivor;
-              rust = λ h. sym (g' .written) ∙ g' .rust h;
-              nearest = g' .nearest;
+              bits = word;
+              found = g';
               finished = subst (λ (m : ℕ). Finished (reverse (g' .word)) m dvcc mode information information′ r) (ec ∙ ap (λ (u : List Bool). signsOf u values) q)
                   (subst (λ (u : List Bool). Finished u corrected dvcc mode information information′ r) q h);
             }

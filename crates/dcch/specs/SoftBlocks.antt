@@ -2,7 +2,7 @@
 use mathlib.Core.Path.{_≡_}
 use mathlib.Core.Bool.{Bool, true, false}
 use mathlib.Core.List.{List, reverse}
-use Prim.Native.Nat.{ℕ, _+_}
+use Prim.Native.Nat.{ℕ, _+_, _/_}
 use lib.ListN.{length}
 use lib.Ieee.{Float, nan}
 use Rattle.bits.specs.Bits.{bytes}
@@ -19,7 +19,7 @@ use Rattle.trellis.specs.Search.{First}
 use Rattle.trellis.specs.Words.{Terminated}
 use Rattle.soft.specs.Reliability.{allFinite, AllWhole, signCount}
 use Rattle.soft.specs.RustOrder.{rustBits}
-use Rattle.soft.specs.Soft.{softWord, totalCost}
+use Rattle.soft.specs.Soft.{softWord, totalCost, NoRounding, SoftFound}
 use Rattle.dcch_interleaver.specs.declared.BlockFormat.{BlockFormat}
 use Rattle.dcch.specs.declared.block.Decoded.{Decoded}
 use Rattle.dcch_interleaver.specs.Formats.{encodedBits, informationBits}
@@ -34,19 +34,26 @@ softArguments f block room = firstRefusal (exactOf (encodedBits f) block) (exact
 unfoldable pub signsOf : List Bool → List Float → ℕ
 signsOf inputs values = signCount (coded dcch (memoryHigh 0) inputs) values
 
--- The end of a soft decoding of cells: the word is the survivor's over doubles, which is what the Rust reads back where all are finite, and,
--- where all are whole numbers of size at most 2 ^ 40, the first of the words of least total cost among all that end in five zeros.
-pub record SoftEnd (cells : List Float) (dvcc : ℕ) (mode : CrcMode) (information₀ information : List ℕ) (r : Decoded) : Type 0 where
-  pub word : List Bool
-  pub survivor : word ≡ softWord cells (length information₀ + 21)
-  pub rust : allFinite cells ≡ true → bytes (reverse word) ≡ rustBits cells (length information₀ + 21)
-  pub nearest : AllWhole cells → First (Terminated (length information₀ + 21)) (totalCost cells) word
-  pub finished : Finished (reverse word) (signsOf (reverse word) cells) dvcc mode information₀ information r
+-- What the search of cells that are finite gives: the word found, and the end of the decoding. count says which bits of the word's inputs are corrected.
+pub record CellsSearched (count : List Bool → List Float → ℕ) (cells : List Float) (dvcc : ℕ) (mode : CrcMode) (information₀ information : List ℕ) (r : Decoded) : Type 0 where
+  pub bits : List ℕ
+  pub found : SoftFound cells (length information₀ + 21) bits
+  pub finished : Finished (reverse (found .word)) (count (reverse (found .word)) cells) dvcc mode information₀ information r
 
--- lengths, then Crc where a reliability is a NaN or an infinity, then the search of the cells; they are finite or whole numbers where the block's are
+-- The end of a soft decoding of a block that is finite, with its count of corrected bits. The word that it works with ends in five zeros and is what the
+-- Rust reads back, the survivor's over doubles. Where every reliability of the block is a whole number of size at most 2 ^ 40 no sum rounds, and it is the
+-- first of the words of least total cost among all that end in five zeros.
+pub record SoftEnd (count : List Bool → List Float → ℕ) (f : BlockFormat) (block : List Float) (dvcc : ℕ) (mode : CrcMode) (information₀ information : List ℕ) (r : Decoded) : Type 0 where
+  pub word : List Bool
+  pub terminated : Terminated (encodedBits f / 2) word
+  pub rust : bytes (reverse word) ≡ rustBits (deinterleaved f nan block) (encodedBits f / 2)
+  pub survivor : word ≡ softWord (deinterleaved f nan block) (encodedBits f / 2)
+  pub exact : AllWhole block → NoRounding (deinterleaved f nan block) (encodedBits f / 2)
+  pub nearest : AllWhole block → First (Terminated (encodedBits f / 2)) (totalCost (deinterleaved f nan block)) word
+  pub finished : Finished (reverse word) (count (reverse word) (deinterleaved f nan block)) dvcc mode information₀ information r
+
+-- lengths, then Crc where a reliability is a NaN or an infinity, then the search
 pub record SoftDecoding (f : BlockFormat) (block : List Float) (dvcc : ℕ) (mode : CrcMode) (information₀ information : List ℕ) (r : Decoded) : Type 0 where
   pub declined : (why : Refusal) → softArguments f (length block) (length information₀) ≡ Refused why → (decodeAnswer r ≡ refused why) × (information ≡ information₀)
   pub unreadable : softArguments f (length block) (length information₀) ≡ Passed → allFinite block ≡ false → (decodeAnswer r ≡ refused Crc) × (information ≡ information₀)
-  pub settled : softArguments f (length block) (length information₀) ≡ Passed → allFinite block ≡ true → SoftEnd (deinterleaved f nan block) dvcc mode information₀ information r
-  pub finite : softArguments f (length block) (length information₀) ≡ Passed → allFinite block ≡ true → allFinite (deinterleaved f nan block) ≡ true
-  pub whole : softArguments f (length block) (length information₀) ≡ Passed → AllWhole block → AllWhole (deinterleaved f nan block)
+  pub settled : softArguments f (length block) (length information₀) ≡ Passed → allFinite block ≡ true → SoftEnd signsOf f block dvcc mode information₀ information r

@@ -18,7 +18,8 @@ ghost use mathlib.Core.Path.{_≡_};
 ghost use Prim.Native.Nat.{_+_, _*_, _≤_};
 ghost use lib.ListN.{length};
 ghost use Rattle.bits.specs.Bits.{allBinary, bits};
-ghost use Rattle.dcch.specs.SoftBlocks.{SoftDecoding, SoftEnd, softArguments, signsOf};
+ghost use Rattle.soft.specs.Reliability.{allFinite};
+ghost use Rattle.dcch.specs.SoftBlocks.{CellsSearched, SoftDecoding, softArguments, signsOf};
 
 fn soft_arguments(format: BlockFormat, block: usize, room: usize) -> Arguments
     ensures { λ r. ⌜ r ≡ softArguments format block room ⌝ }
@@ -40,8 +41,8 @@ fn count_signs(word: &[u8], values: &[f64]) -> u16
 
 // The search of the cells, and the end of the decoding.
 fn search_cells(values: &[f64], dvcc: u8, mode: CrcMode, information: &mut [u8]) -> Decoded
-    requires { ⌜ (length (now information) ≤ 109) × (length (now values) ≡ (length (now information) + 21) * 2) ⌝ }
-    ensures { λ r. ⌜ SoftEnd (now (values .entry)) dvcc mode (now (information .entry)) (now (information .exit)) r ⌝ }
+    requires { ⌜ (length (now information) ≤ 109) × (length (now values) ≡ (length (now information) + 21) * 2) × (allFinite (now values) ≡ true) ⌝ }
+    ensures { λ r. ⌜ CellsSearched signsOf (now (values .entry)) dvcc mode (now (information .entry)) (now (information .exit)) r ⌝ }
 {
     let mut word = [0u8; 130];
     let steps = information.len() + 21;

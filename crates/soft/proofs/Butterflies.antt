@@ -1,4 +1,4 @@
--- The arrays of `advance`, filled up to a butterfly: the states n and n + 16 for each n below it. Assumes nothing.
+-- The arrays of `select`, filled up to a butterfly: the states n and n + 16 for each n below it. Assumes nothing.
 use mathlib.Core.Path.{_≡_, sym, ap, ap₂, _∙_, subst}
 use mathlib.Core.Bool.{true, false}
 use mathlib.Core.List.{List}
@@ -11,7 +11,7 @@ use lib.ListN.{length, getD, set, length-set}
 use lib.Seq.{getD-set-same, getD-set-other}
 use lib.Ieee.{Float, nan, binary64, add}
 use Rattle.bits.specs.Bits.{bit}
-use Rattle.soft.specs.Step.{lesserOf, chosenOf, candidateOf, metricInto, chosenInto, Advanced}
+use Rattle.soft.specs.Step.{lesserOf, chosenOf, candidateOf, metricInto, chosenInto, Selected}
 
 -- the places n and n + 16 are right for each n below k
 abbrev pub Halves : {A : Type 0} → A → (ℕ → A) → List A → ℕ → Type 0
@@ -115,7 +115,7 @@ module _ (ms zeros ones : List Float) where
       }
 
   pub filled-all : (next : List Float) (predecessors : List ℕ) (k : ℕ) → Filled ms zeros ones next predecessors k → 16 ≤ k
-      → Advanced ms zeros ones (record { metrics = next; predecessors = predecessors })
+      → Selected ms zeros ones (record { metrics = next; predecessors = predecessors })
   filled-all next predecessors k f h =
       record {
         metric = halves-all nan (metricInto ms zeros ones) next (λ n b. f .metric n (omega arith));

@@ -3,9 +3,10 @@ pub mod Tests
 pub mod Signs
 pub mod Costs
 pub mod Butterflies
-pub mod Running
 pub mod Tracing
 pub mod ScanOrder
 pub mod RustOrder
+pub mod Running
+pub mod Termination
 pub mod Exactness
 pub mod Samples

@@ -2,7 +2,7 @@
 use mathlib.Core.Path.{_≡_, refl}
 use mathlib.Core.Bool.{true, false}
 use mathlib.Core.List.{List, [], _∷_}
-use Prim.Native.Nat.{ℕ, _^_}
+use Prim.Native.Nat.{ℕ, zero, suc, _^_, _≤_}
 use native.Mathlib.Omega.{arith}
 use lib.Dec.{lit≤}
 use lib.IntN.{pos, negsuc}
@@ -11,7 +11,7 @@ use lib.Count.{trailingZeros}
 use Rattle.bits.specs.Bits.{tally}
 use Rattle.coding.specs.Codes.{tapped, coded}
 use Rattle.trellis.specs.Trellis.{stateMetric, survivor, word}
-use Rattle.soft.specs.Reliability.{magnitude, negative, signCount, bitCost, wholeCost, WholeWithin}
+use Rattle.soft.specs.Reliability.{magnitude, negative, signCount, bitCost, wholeCost, WholeWithin, AllWhole}
 use Rattle.soft.specs.Branch.{pairCost}
 use Rattle.soft.specs.Soft.{softWord, totalCost}
 
@@ -44,3 +44,20 @@ corrected = refl
 pub found : softWord received 6 ≡ false ∷ false ∷ false ∷ false ∷ false ∷ true ∷ []
 unfolding softWord word survivor stateMetric pairCost bitCost magnitude negative tapped add sum round units odd size span climb trailingZeros lt
 found = refl
+
+-- Here the order of the sums decides, since 2 ^ 53 + 1 rounds: each pair is summed before it meets a path metric. Bit by bit the word would be six zeros.
+abbrev rounding : List Float
+rounding = one ∷ minus ∷ one ∷ minus ∷ fin true 1 (pos 53) ∷ minus ∷ minus ∷ one ∷ one ∷ minus ∷ minus ∷ minus ∷ []
+
+pub pair-first : softWord rounding 6 ≡ false ∷ false ∷ false ∷ false ∷ false ∷ true ∷ []
+unfolding softWord word survivor stateMetric pairCost bitCost magnitude negative tapped add sum round units odd size span climb trailingZeros lt
+pair-first = refl
+
+-- whole numbers up to 2 ^ 40, of either sign, and no further
+pub whole-at-bound : AllWhole (fin false 1 (pos 40) ∷ fin true 1 (pos 40) ∷ [])
+whole-at-bound zero h = record { whole = (refl, refl); small = lit≤ tt }
+whole-at-bound (suc zero) h = record { whole = (refl, refl); small = lit≤ tt }
+whole-at-bound (suc (suc i)) h = absurd (omega arith)
+
+pub whole-past-bound : AllWhole (fin false 1099511627777 (pos 0) ∷ []) → ⊥
+whole-past-bound w = let h : 1099511627777 ≤ 2 ^ 40 = w 0 (omega arith) .small in omega arith

@@ -11,7 +11,7 @@ use lib.Ieee.{Float, inf, binary64, add, lt}
 use borrow.Author.Tests.{eq-eqb, ne-eqb}
 use Rattle.trellis.specs.Numbering.{newestHigh, predHigh}
 use Rattle.trellis.proofs.Registers.{register-high}
-use Rattle.soft.specs.Reliability.{finite}
+use Rattle.soft.specs.Reliability.{isFinite}
 use Rattle.soft.specs.RustOrder.{Stored, written, offer, extend, scan}
 
 -- ---- one offer
@@ -37,7 +37,7 @@ offer-elsewhere state next s c kept n = go (lt c (kept .metric next))
 
 -- ---- what is kept for a state
 abbrev pub displaces : Float → Float → Float → Bool
-displaces kept m d = finite m && lt (add binary64 m d) kept
+displaces kept m d = isFinite m && lt (add binary64 m d) kept
 
 -- once the lower predecessor has been tried
 abbrev pub keptFirst : Float → Float → Float
@@ -67,7 +67,7 @@ module _ (m : ℕ → Float) (dist : ℕ → Bool → Float) (s : ℕ) (hs : s <
   -- a state that leads elsewhere
   misses : (k : ℕ) → ((b : Bool) → newestHigh .next k b ≡ s → ⊥) → Same (scan m dist (suc k)) (scan m dist k)
   unfolding scan
-  misses k n = go (finite (m k))
+  misses k n = go (isFinite (m k))
     where
       go : (v : Bool) → Same (cond v (extend m dist k true (extend m dist k false (scan m dist k))) (scan m dist k)) (scan m dist k)
       go true =
@@ -107,7 +107,7 @@ module _ (m : ℕ → Float) (dist : ℕ → Bool → Float) (s : ℕ) (hs : s <
 
   tried : (k : ℕ) → k < 32 → newestHigh .next k (newestHigh .newest s) ≡ s → Tried k k
   unfolding scan
-  tried k hk e = go (finite (m k))
+  tried k hk e = go (isFinite (m k))
     where
       n : Bool
       n = newestHigh .newest s

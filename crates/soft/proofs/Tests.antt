@@ -1,8 +1,8 @@
 -- The tests on doubles that stand for `is_finite` and `abs`, by cases of the value. Assumes nothing.
 use mathlib.Core.Path.{_≡_, refl, sym, ap, _∙_, subst}
-use mathlib.Core.Bool.{Bool, true, false, true≢false, false≢true, _&&_, _||_, not}
+use mathlib.Core.Bool.{Bool, true, false, true≢false, false≢true, _&&_, _||_}
 use mathlib.Core.List.{List, [], _∷_}
-use Prim.Native.Nat.{ℕ, zero, suc, _+_, _*_, _^_, _≤_, _<_}
+use Prim.Native.Nat.{ℕ, zero, suc, _+_, _*_, _^_, _<_}
 use native.Mathlib.Nat.{lt-irrefl, mul-pos, zero-lt-suc, mul-one, one-mul, zero-mul, not-suc-le-zero, le-of-suc-le-suc, pow-succ'}
 use native.Mathlib.Omega.{arith}
 use lib.Pow.{pow-pos}
@@ -12,18 +12,18 @@ use lib.ListN.{length, getD}
 use lib.Ieee.{Float, nan, inf, fin, Format, up, down, neg, lt, eq, fits}
 use lib.Ieee.Fits.{up-pos}
 use Rattle.bits.proofs.Passing.{Tests}
-use Rattle.soft.specs.Reliability.{zeroF, finite, allFinite, magnitude}
+use Rattle.soft.specs.Reliability.{zeroF, isFinite, allFinite, magnitude}
 
 -- ---- between the infinities
-pub finite-below : (x : Float) → lt x (inf false) ≡ true → lt (inf true) x ≡ finite x
-unfolding lt finite
+pub finite-below : (x : Float) → lt x (inf false) ≡ true → lt (inf true) x ≡ isFinite x
+unfolding lt isFinite
 finite-below nan h = refl
 finite-below (inf false) h = absurd (false≢true h)
 finite-below (inf true) h = refl
 finite-below (fin s m e) h = refl
 
-pub finite-above : (x : Float) → lt x (inf false) ≡ false → false ≡ finite x
-unfolding lt finite
+pub finite-above : (x : Float) → lt x (inf false) ≡ false → false ≡ isFinite x
+unfolding lt isFinite
 finite-above nan h = refl
 finite-above (inf false) h = refl
 finite-above (inf true) h = absurd (true≢false h)
@@ -84,20 +84,20 @@ abs-positive (fin false m e) h k = refl
 abs-positive (fin true m e) h k = absurd (not-both (m * up e * 1) (0 * 1 * down e) (zero-mul (down e)) h k)
 
 -- ---- as a test of each value
-pub finite-tests : Tests allFinite finite
+pub finite-tests : Tests allFinite isFinite
 unfolding allFinite
 finite-tests = record { none = refl; one = λ x l. refl }
 
 -- each of finite values is
-pub finite-each : (l : List Float) → allFinite l ≡ true → (i : ℕ) → i < length l → finite (getD l i nan) ≡ true
+pub finite-each : (l : List Float) → allFinite l ≡ true → (i : ℕ) → i < length l → isFinite (getD l i nan) ≡ true
 unfolding allFinite
 finite-each [] h i b = absurd (not-suc-le-zero b)
-finite-each (x ∷ l) h zero b = here (finite x) (allFinite l) h
+finite-each (x ∷ l) h zero b = here (isFinite x) (allFinite l) h
   where
     here : (p q : Bool) → (p && q) ≡ true → p ≡ true
     here true q e = refl
     here false q e = e
-finite-each (x ∷ l) h (suc i) b = finite-each l (there (finite x) (allFinite l) h) i (le-of-suc-le-suc b)
+finite-each (x ∷ l) h (suc i) b = finite-each l (there (isFinite x) (allFinite l) h) i (le-of-suc-le-suc b)
   where
     there : (p q : Bool) → (p && q) ≡ true → q ≡ true
     there true q e = e

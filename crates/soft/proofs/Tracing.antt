@@ -1,7 +1,7 @@
 -- The loop of `traceback`: what is left to read, before what was read, is the survivor's word. Assumes nothing.
 use mathlib.Core.Path.{_≡_, refl, sym, ap, _∙_, subst}
-use mathlib.Core.List.{List, [], reverse}
-use Prim.Native.Nat.{ℕ, suc, _-_, _/_, _%_, _≤_, _<_}
+use mathlib.Core.List.{List, [], _∷_, reverse}
+use Prim.Native.Nat.{ℕ, zero, suc, _-_, _/_, _≤_, _<_}
 use native.Mathlib.Omega.{arith}
 use native.Mathlib.Nat.{le-refl}
 use lib.ListN.{length, set, drop, length-set}
@@ -16,7 +16,6 @@ use Rattle.trellis.proofs.Registers.{register-high, high-bit}
 use Rattle.search.proofs.Survivors.{traced-word}
 use Rattle.soft.specs.Branch.{softBranch, softStart, softTrellis}
 use Rattle.soft.specs.RustOrder.{highest}
-use Rattle.soft.specs.Step.{rowsAt, Decided}
 use Rattle.soft.specs.Soft.{softWord}
 
 pub record Tracing (from : ℕ → ℕ → ℕ) (word₀ word : List ℕ) (state step : ℕ) : Type 0 where
@@ -61,14 +60,11 @@ unfolding softWord
 decided-traced values from n d =
     traced-word doubles newestHigh register-high (softBranch values) softStart highest (λ t h. sym (high-bit t h)) from n 0 [] (omega arith) d
 
-pub decided-below : (values : List Float) (rows : List (List ℕ)) (n : ℕ) → Decided values rows n → (k s : ℕ) → k < n → s < 32 → rowsAt rows k s < 32
-decided-below values rows n d k s hk hs =
-    subst (λ (p : ℕ). p < 32) (sym (d k hk s hs)) (register-high .pred-below s (decision doubles (softTrellis values) k s) hs)
-
--- the low bytes of the rows decide alike
-pub narrowed-decided : (values : List Float) (rows low : List (List ℕ)) (n : ℕ) → n ≤ 130 → Decided values rows n
-    → ((k : ℕ) → k < 130 → (s : ℕ) → s < 32 → rowsAt low k s ≡ rowsAt rows k s % 256) → Decided values low n
-narrowed-decided values rows low n h d e k hk s hs =
-    let b : rowsAt rows k s < 32 = decided-below values rows n d k s hk hs in
-    let same : rowsAt rows k s % 256 ≡ rowsAt rows k s = omega arith in
-    e k (omega arith) s hs ∙ same ∙ d k hk s hs
+-- tables that agree on the states are traced alike
+pub traced-same : (from table : ℕ → ℕ → ℕ) (n t : ℕ) (after : List ℕ) → t < 32 → ((k s : ℕ) → k < n → s < 32 → from k s ≡ table k s)
+    → ((k s : ℕ) → k < n → s < 32 → table k s < 32) → traced highest from n t after ≡ traced highest table n t after
+unfolding traced
+traced-same from table zero t after h e b = refl
+traced-same from table (suc n) t after h e b =
+    ap (λ (s : ℕ). traced highest from n s (highest t ∷ after)) (e n t (omega arith) h)
+    ∙ traced-same from table n (table n t) (highest t ∷ after) (b n t (omega arith) h) (λ k s hk hs. e k s (omega arith) hs) (λ k s hk hs. b k s (omega arith) hs)

@@ -14,6 +14,10 @@ use Rattle.soft.specs.Reliability.{zeroF, bitCost}
 unfoldable pub pairCost : Float → Float → List Bool → Float
 pairCost x y output = add binary64 (bitCost (getD output 0 false) x) (bitCost (getD output 1 false) y)
 
+-- the output bit i of a step from the state s with the input b
+abbrev pub outputBit : ℕ → Bool → ℕ → Bool
+outputBit s b i = getD (outputs dcch (b ∷ memoryHigh s)) i false
+
 -- the branch metric of the step k from the state s with the input b
 abbrev pub softBranch : List Float → ℕ → ℕ → Bool → Float
 softBranch values k s b = pairCost (getD values (k * 2) nan) (getD values (k * 2 + 1) nan) (outputs dcch (b ∷ memoryHigh s))

@@ -12,14 +12,14 @@ abbrev pub zeroF : Float
 zeroF = fin false 0 (pos 0)
 
 -- neither a NaN nor an infinity
-unfoldable pub finite : Float → Bool
-finite nan = false
-finite (inf s) = false
-finite (fin s m e) = true
+unfoldable pub isFinite : Float → Bool
+isFinite nan = false
+isFinite (inf s) = false
+isFinite (fin s m e) = true
 
 unfoldable pub allFinite : List Float → Bool
 allFinite [] = true
-allFinite (x ∷ l) = finite x && allFinite l
+allFinite (x ∷ l) = isFinite x && allFinite l
 
 -- the absolute value: the sign is cleared, also of a zero
 unfoldable pub magnitude : Float → Float

@@ -6,7 +6,7 @@ use lib.Dec.{eqb}
 use lib.Ieee.{Float, inf, binary64, add, lt}
 use Rattle.trellis.specs.Numbering.{newestHigh}
 use Rattle.search.specs.Traceback.{traced}
-use Rattle.soft.specs.Reliability.{finite}
+use Rattle.soft.specs.Reliability.{isFinite}
 use Rattle.soft.specs.Branch.{softBranch, softStart}
 
 -- what a step has stored so far: `next_metrics` and `predecessors[step]`, by state
@@ -32,7 +32,7 @@ module _ (m : ℕ → Float) (dist : ℕ → Bool → Float) where
   -- `for (state, metric) in metrics { if !metric.is_finite() { continue; } .. }`, after the states below k
   unfoldable pub scan : ℕ → Stored
   scan zero = record { metric = λ s. inf false; from = λ s. 0 }
-  scan (suc k) = cond (finite (m k)) (extend k true (extend k false (scan k))) (scan k)
+  scan (suc k) = cond (isFinite (m k)) (extend k true (extend k false (scan k))) (scan k)
 
 module _ (values : List Float) where
   unfoldable pub rustMetric : ℕ → ℕ → Float

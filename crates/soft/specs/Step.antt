@@ -4,13 +4,13 @@ use mathlib.Core.Bool.{Bool, true, false, cond}
 use mathlib.Core.List.{List, [], _∷_}
 use Prim.Native.Nat.{ℕ, _+_, _*_, _/_, _%_, _<_}
 use lib.ListN.{getD}
-use lib.Ieee.{Float, nan, binary64, add, lt}
+use lib.Ieee.{Float, nan, inf, binary64, add, lt, eq}
 use Rattle.bits.specs.Bits.{bit, byte, _⊕_}
 use Rattle.coding.specs.Codes.{outputs, dcch}
 use Rattle.coding.specs.Registers.{memoryHigh}
 use Rattle.trellis.specs.Numbering.{predHigh}
-use Rattle.trellis.specs.Trellis.{doubles, decision}
-use Rattle.soft.specs.Branch.{pairCost, softTrellis}
+use Rattle.soft.specs.Branch.{pairCost}
+use Rattle.soft.specs.RustOrder.{rustFrom}
 use Rattle.soft.specs.declared.step.Branches.{Branches}
 use Rattle.soft.specs.declared.step.Column.{Column}
 
@@ -60,15 +60,24 @@ metricInto ms zeros ones t = lesserOf (candidateOf ms zeros ones t false) (candi
 abbrev pub chosenInto : List Float → List Float → List Float → ℕ → ℕ
 chosenInto ms zeros ones t = chosenOf (candidateOf ms zeros ones t false) (candidateOf ms zeros ones t true) (predHigh t false)
 
-pub record Advanced (ms zeros ones : List Float) (r : Column) : Type 0 where
+-- the lesser candidates, and the predecessors that they come through
+pub record Selected (ms zeros ones : List Float) (r : Column) : Type 0 where
   pub metric : (t : ℕ) → t < 32 → getD (r .metrics) t nan ≡ metricInto ms zeros ones t
   pub chosen : (t : ℕ) → t < 32 → getD (r .predecessors) t 0 ≡ chosenInto ms zeros ones t
 
+-- the byte stored of a state by its metric after the step: its predecessor, and 0 where no candidate was below infinity
+unfoldable pub storedOf : Float → ℕ → ℕ
+storedOf metric chosen = cond (eq metric (inf false)) 0 chosen
+
+pub record Advanced (ms zeros ones : List Float) (r : Column) : Type 0 where
+  pub metric : (t : ℕ) → t < 32 → getD (r .metrics) t nan ≡ metricInto ms zeros ones t
+  pub stored : (t : ℕ) → t < 32 → getD (r .predecessors) t 0 ≡ storedOf (metricInto ms zeros ones t) (chosenInto ms zeros ones t)
+
 -- ---- all steps
--- the predecessor of s at the step k, by a list of rows
+-- the byte of s at the step k, by a list of rows
 abbrev pub rowsAt : List (List ℕ) → ℕ → ℕ → ℕ
 rowsAt rows k s = getD (getD rows k []) s 0
 
--- the first n rows hold the predecessors that the search decides on
-abbrev pub Decided : List Float → List (List ℕ) → ℕ → Type 0
-Decided values rows n = (k : ℕ) → k < n → (s : ℕ) → s < 32 → rowsAt rows k s ≡ predHigh s (decision doubles (softTrellis values) k s)
+-- the first n rows hold what the Rust's table does
+abbrev pub StoredTo : List Float → List (List ℕ) → ℕ → Type 0
+StoredTo values rows n = (k : ℕ) → k < n → (s : ℕ) → s < 32 → rowsAt rows k s ≡ rustFrom values k s

@@ -1,7 +1,6 @@
 // Ported from 136-bts, dcch.rs (see NOTICE): `viterbi_soft`, and the tests and the count of `decode_soft`.
 // The soft-decision search of the DCCH code over doubles: specs/Soft.antt says what it finds.
 mod reliability;
-mod rows;
 mod step;
 
 pub use crate::reliability::abs;
@@ -13,18 +12,17 @@ use crate::step::advance;
 use crate::step::branch_metrics;
 use crate::step::output_pairs;
 use bits::wide;
-use rows::narrowed;
-ghost use mathlib.Core.Bool.{false};
+ghost use mathlib.Core.Bool.{false, true};
 ghost use mathlib.Core.Path.{_≡_};
 ghost use mathlib.Core.List.{[], _∷_};
 ghost use Prim.Native.Nat.{ℕ, _*_, _/_, _<_, _≤_};
 ghost use lib.ListN.{length, replicate};
 ghost use lib.Ieee.{inf};
 ghost use Rattle.search.specs.Traceback.{traced};
-ghost use Rattle.soft.specs.Reliability.{zeroF};
+ghost use Rattle.soft.specs.Reliability.{allFinite, zeroF};
 ghost use Rattle.soft.specs.RustOrder.{highest};
 ghost use Rattle.soft.specs.Soft.{SoftFound};
-ghost use Rattle.soft.specs.Step.{Decided, rowsAt};
+ghost use Rattle.soft.specs.Step.{StoredTo, rowsAt};
 
 // The path metrics before the first step: state 0 costs nothing, and no other is reached.
 fn start_metrics() -> [f64; 32]
@@ -36,15 +34,15 @@ fn start_metrics() -> [f64; 32]
     metrics
 }
 
-// The forward recursion, two reliabilities to a step: each state's predecessor at each step.
+// The forward recursion, two finite reliabilities to a step: the predecessor byte of each state at each step.
 fn forward(values: &[f64]) -> [[u8; 32]; 130]
-    requires { ⌜ length (now values) ≤ 260 ⌝ }
-    ensures { λ r. ⌜ (length r ≡ 130) × Decided (now (values .entry)) r (length (now (values .entry)) / 2) ⌝ }
+    requires { ⌜ (length (now values) ≤ 260) × (allFinite (now values) ≡ true) ⌝ }
+    ensures { λ r. ⌜ (length r ≡ 130) × StoredTo (now (values .entry)) r (length (now (values .entry)) / 2) ⌝ }
 {
     let pairs = output_pairs();
     let steps = values.len() / 2;
     let mut metrics = start_metrics();
-    let mut predecessors = [[0u16; 32]; 130];
+    let mut predecessors = [[0u8; 32]; 130];
     for step in 0..steps {
         let branch = branch_metrics(pairs, values[step * 2], values[step * 2 + 1]);
         let zeros = branch.zeros;
@@ -55,7 +53,7 @@ fn forward(values: &[f64]) -> [[u8; 32]; 130]
         metrics = next;
         predecessors[step] = chosen;
     }
-    narrowed(&predecessors)
+    predecessors
 }
 
 // Reads the survivor into state 0 back: the input of each step is the highest bit of the state that it enters.
@@ -73,9 +71,9 @@ fn traceback(predecessors: &[[u8; 32]], word: &mut [u8])
     }
 }
 
-// Writes the word of the survivor into state 0, two reliabilities to a bit.
+// Writes the word of the survivor into state 0, two finite reliabilities to a bit.
 pub fn viterbi_soft(values: &[f64], word: &mut [u8])
-    requires { ⌜ (5 ≤ length (now word)) × (length (now word) ≤ 130) × (length (now values) ≡ length (now word) * 2) ⌝ }
+    requires { ⌜ (5 ≤ length (now word)) × (length (now word) ≤ 130) × (length (now values) ≡ length (now word) * 2) × (allFinite (now values) ≡ true) ⌝ }
     ensures { λ _. ⌜ SoftFound (now (values .entry)) (length (now (word .entry))) (now (word .exit)) ⌝ }
 {
     let predecessors = forward(values);

@@ -7,7 +7,7 @@ ghost use Prim.Native.Nat.{_≤_, _<_};
 ghost use lib.Ieee.{inf};
 ghost use lib.ListN.{length};
 ghost use Rattle.bits.specs.Bits.{bit, bits, differ};
-ghost use Rattle.soft.specs.Reliability.{allFinite, finite, magnitude, negative, signCount};
+ghost use Rattle.soft.specs.Reliability.{allFinite, isFinite, magnitude, negative, signCount};
 
 pub fn infinity() -> f64
     ensures { λ r. ⌜ r ≡ inf false ⌝ }
@@ -17,7 +17,7 @@ pub fn infinity() -> f64
 
 // Whether x is neither a NaN nor an infinity. (A NaN is not below infinity.)
 pub fn is_finite(x: f64) -> bool
-    ensures { λ r. ⌜ r ≡ finite x ⌝ }
+    ensures { λ r. ⌜ r ≡ isFinite x ⌝ }
 {
     let top = infinity();
     if x < top { -top < x } else { false }

@@ -1,22 +1,25 @@
 // One step of the soft-decision search, by butterflies: the states 2 n and 2 n + 1 lead to n and n + 16.
 // Ported from 136-bts, dcch.rs, and changed (see NOTICE).
 use crate::reliability::abs;
+use crate::reliability::infinity;
 use bits::wide;
 use coding::register::parity;
 ghost use mathlib.Core.Path.{_≡_};
-ghost use Prim.Native.Nat.{_<_};
+ghost use Prim.Native.Nat.{ℕ, _<_};
+ghost use lib.Ieee.{nan};
+ghost use lib.ListN.{getD};
 ghost use Rattle.soft.specs.Reliability.{bitCost};
-ghost use Rattle.soft.specs.Step.{Advanced, Branched, OutputsTo, PairCosts, chosenOf, lesserOf};
+ghost use Rattle.soft.specs.Step.{Advanced, Branched, OutputsTo, PairCosts, Selected, chosenOf, lesserOf, storedOf};
 
 // IS-136.2-A 2.1.3.3.3.4, the newest input highest.
 const G0: u8 = 0o65;
 
 const G1: u8 = 0o57;
 
-// The path metrics after a step, and the predecessor of each state: two bytes, since the comparisons of doubles that make them do not narrow well.
+// The path metrics after a step, and a predecessor byte for each state.
 pub struct Column {
     pub metrics: [f64; 32],
-    pub predecessors: [u16; 32],
+    pub predecessors: [u8; 32],
 }
 
 // The branch metrics from the states 2 n, with a zero and with a one. Flipping the oldest input complements both outputs as
@@ -82,7 +85,7 @@ fn lesser(lower: f64, upper: f64) -> f64
 }
 
 // The predecessor of the survivor: the upper one only where its candidate is less.
-fn predecessor(lower: f64, upper: f64, from: u16) -> u16
+fn predecessor(lower: f64, upper: f64, from: u8) -> u8
     requires { ⌜ from < 32 ⌝ }
     ensures { λ r. ⌜ r ≡ chosenOf lower upper from ⌝ }
 {
@@ -90,11 +93,11 @@ fn predecessor(lower: f64, upper: f64, from: u16) -> u16
 }
 
 // Add, compare, select.
-pub fn advance(metrics: [f64; 32], zeros: [f64; 16], ones: [f64; 16]) -> Column
-    ensures { λ r. ⌜ Advanced metrics zeros ones r ⌝ }
+fn select(metrics: [f64; 32], zeros: [f64; 16], ones: [f64; 16]) -> Column
+    ensures { λ r. ⌜ Selected metrics zeros ones r ⌝ }
 {
     let mut next = [0.0f64; 32];
-    let mut predecessors = [0u16; 32];
+    let mut predecessors = [0u8; 32];
     for n in 0..16 {
         let lower = metrics[n * 2];
         let upper = metrics[n * 2 + 1];
@@ -102,7 +105,7 @@ pub fn advance(metrics: [f64; 32], zeros: [f64; 16], ones: [f64; 16]) -> Column
         let b = upper + ones[n];
         let c = lower + ones[n];
         let d = upper + zeros[n];
-        let from = (n * 2) as u16;
+        let from = (n * 2) as u8;
         next[n] = lesser(a, b);
         next[n + 16] = lesser(c, d);
         predecessors[n] = predecessor(a, b, from);
@@ -111,5 +114,38 @@ pub fn advance(metrics: [f64; 32], zeros: [f64; 16], ones: [f64; 16]) -> Column
     Column {
         metrics: next,
         predecessors,
+    }
+}
+
+// The byte that is stored of a state: 0 where no candidate is below infinity.
+fn stored(metric: f64, predecessor: u8) -> u8
+    ensures { λ r. ⌜ r ≡ storedOf metric predecessor ⌝ }
+{
+    let top = infinity();
+    if metric == top { 0 } else { predecessor }
+}
+
+// The bytes of all states, in a loop of their own, which is vectorised.
+fn stored_row(metrics: [f64; 32], predecessors: [u8; 32]) -> [u8; 32]
+    ensures { λ r. ⌜ ((t : ℕ) → t < 32 → getD r t 0 ≡ storedOf (getD metrics t nan) (getD predecessors t 0)) ⌝ }
+{
+    let mut row = [0u8; 32];
+    for t in 0..32 {
+        row[t] = stored(metrics[t], predecessors[t]);
+    }
+    row
+}
+
+// One step: the path metrics after it, and what is stored of each state.
+pub fn advance(metrics: [f64; 32], zeros: [f64; 16], ones: [f64; 16]) -> Column
+    ensures { λ r. ⌜ Advanced metrics zeros ones r ⌝ }
+{
+    let selected = select(metrics, zeros, ones);
+    let next = selected.metrics;
+    let chosen = selected.predecessors;
+    let row = stored_row(next, chosen);
+    Column {
+        metrics: next,
+        predecessors: row,
     }
 }

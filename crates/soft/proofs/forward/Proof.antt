@@ -1,11 +1,8 @@
--- `soft::forward` meets its contract: after each step the path metrics and the predecessors are those of the recursion. Assumes nothing.
+-- `soft::forward` meets its contract: after each step the path metrics are those of the recursion, and the rows the Rust's. Assumes nothing.
 use mathlib.Core.Path.{refl}
-use Prim.Native.Nat.{_-_, _/_}
+use Prim.Native.Nat.{_-_}
 use native.Mathlib.Omega.{arith}
-use denote.Ref.{now}
-use lib.ListN.{length}
 use Rattle.soft.proofs.Running.{Running, running-none, running-more}
-use Rattle.soft.proofs.Tracing.{narrowed-decided}
 use borrow.Author.Needs.{needs}
 use Rattle.soft.proofs.forward.Statement.{statement}
 use Rattle.soft.proofs.forward.Tie as tie
@@ -69,20 +66,13 @@ loop-again c =
     let at-advance = c .before .before in
     let at-branch-metrics = at-advance .before .before .before in
     let at = at-branch-metrics .before .before .before .before in
-    running-more (at .loop .inv) (omega arith) (omega arith) (at-branch-metrics .branch-metrics .result) (at-branch-metrics .branch-metrics .ensures)
+    running-more (at .loop .inv) (omega arith) (omega arith) (omega arith) (at .before .before .before .before .pre .1) (at-branch-metrics .branch-metrics .result) (at-branch-metrics .branch-metrics .ensures)
     (at-advance .advance .result) (at-advance .advance .ensures)
-
-slice-aggregate-narrowed : tie.Need-slice-aggregate-narrowed Inv-loop μ-loop
-slice-aggregate-narrowed c = search needs
-
-narrowed-requires : tie.Need-narrowed-requires Inv-loop μ-loop
-narrowed-requires c κs = c .before .before .loop .inv .size
 
 returns : tie.Need-returns Inv-loop μ-loop
 returns c =
-    let values = now (c .before .before .before .before .before .before .before .args .values) in
-    let at = c .before .before .before .loop in
-    (c .narrowed .ensures .0, narrowed-decided values (at .predecessors) (c .narrowed .result) (length values / 2) (omega arith) (λ k h. at .inv .decided k (omega arith)) (c .narrowed .ensures .1))
+    let at = c .before .loop in
+    (at .inv .size, λ k h. at .inv .stored k (omega arith))
 
 pub forward-spec : {M : Type 1} → statement M
 forward-spec =
@@ -107,6 +97,4 @@ forward-spec =
     add-step
     loop-less
     loop-again
-    slice-aggregate-narrowed
-    narrowed-requires
     returns)

@@ -1,7 +1,5 @@
 -- `dcch::soft_block::decode_soft` meets its contract: a refusal, or the search of the cells. Assumes nothing.
-use native.Mathlib.Omega.{arith}
 use mathlib.Core.Path.{refl}
-use lib.ListN.{length}
 use Rattle.bits.proofs.LentPart.{part-length, whole-length}
 use Rattle.dcch.proofs.SoftDecodings.{declined-end, unreadable-end, within, asks-wires, asks-cells, settled-end}
 use borrow.Author.Needs.{needs}
@@ -90,14 +88,15 @@ search-cells-requires : tie.Need-search-cells-requires
 search-cells-requires c κs =
     let at-deinterleave-soft = c .before .before .before in
     let at-encoded-bits = at-deinterleave-soft .before .before in
-    let at-all-finite = at-encoded-bits .before .before in
+    let at-if1 = at-encoded-bits .before in
+    let at-all-finite = at-if1 .before in
     let at-enum-told = at-all-finite .before in
     let at-soft-arguments = at-enum-told .before .before in
     let entry = at-soft-arguments .before .before .before in
     asks-cells (entry .args .format) (entry .args .block .now) (entry .args .dvcc) (entry .args .mode) (entry .args .information .now)
     (at-soft-arguments .soft-arguments .ensures) (at-enum-told .enum-told .given .1) (at-all-finite .all-finite .ensures) _ (at-encoded-bits .encoded-bits .ensures) _
     refl (at-deinterleave-soft .deinterleave-soft .last .1 .1 .0) (at-deinterleave-soft .deinterleave-soft .kept .1 .1 .0)
-    (at-deinterleave-soft .deinterleave-soft .ensures)
+    (at-deinterleave-soft .deinterleave-soft .ensures) (at-if1 .if1 .left)
 
 same-length : tie.Need-same-length
 same-length c = search needs

@@ -1,6 +1,5 @@
 -- `dcch::soft_block::search_cells` meets its contract: the search's word, its count, and the end of the decoding. Assumes nothing.
 use native.Mathlib.Omega.{arith}
-use lib.ListN.{length}
 use Rattle.bits.proofs.LentPart.{part-length, whole-length}
 use Rattle.dcch.proofs.SoftCells.{asks-soft, asks-signs, asks-finish, soft-end}
 use borrow.Author.Needs.{needs}
@@ -19,7 +18,7 @@ slice-aggregate-viterbi-soft c = part-length _ _ (omega arith)
 viterbi-soft-requires : tie.Need-viterbi-soft-requires
 viterbi-soft-requires c κs =
     let entry = c .before .before .before in
-    asks-soft (entry .args .values .now) (entry .args .information .now) (entry .pre .0) (entry .pre .1)
+    asks-soft (entry .args .values .now) (entry .args .information .now) (entry .pre .0) (entry .pre .1) (entry .pre .2)
 
 array-share-prefix-word : tie.Need-array-share-prefix-word
 array-share-prefix-word c = whole-length _ _ (omega arith) (c .before .viterbi-soft .last .1 .0) (c .before .viterbi-soft .kept .1 .0)
@@ -31,7 +30,7 @@ count-signs-requires : tie.Need-count-signs-requires
 count-signs-requires c κs =
     let at-viterbi-soft = c .before .before in
     let entry = at-viterbi-soft .before .before .before .before in
-    asks-signs (entry .args .values .now) (entry .args .information .now) (entry .pre .0) (entry .pre .1) (at-viterbi-soft .viterbi-soft .last .1 .0)
+    asks-signs (entry .args .values .now) (entry .args .information .now) (entry .pre .0) (entry .pre .1) (entry .pre .2) (at-viterbi-soft .viterbi-soft .last .1 .0)
     (at-viterbi-soft .viterbi-soft .kept .1 .0) (at-viterbi-soft .viterbi-soft .ensures)
 
 array-share-prefix-word-2 : tie.Need-array-share-prefix-word-2
@@ -44,7 +43,7 @@ finish-requires : tie.Need-finish-requires
 finish-requires c κs =
     let at-viterbi-soft = c .before .before .before .before .before in
     let entry = at-viterbi-soft .before .before .before .before in
-    asks-finish (entry .args .values .now) (entry .args .information .now) (entry .pre .0) (entry .pre .1) (at-viterbi-soft .viterbi-soft .last .1 .0)
+    asks-finish (entry .args .values .now) (entry .args .information .now) (entry .pre .0) (entry .pre .1) (entry .pre .2) (at-viterbi-soft .viterbi-soft .last .1 .0)
     (at-viterbi-soft .viterbi-soft .kept .1 .0) (at-viterbi-soft .viterbi-soft .ensures)
 
 same-length : tie.Need-same-length
@@ -55,7 +54,7 @@ returns c =
     let at-count-signs = c .before .before .before .before .before in
     let at-viterbi-soft = at-count-signs .before .before .before in
     let entry = at-viterbi-soft .before .before .before .before in
-    soft-end (entry .args .values .now) (entry .args .information .now) (entry .pre .0) (entry .pre .1) (at-viterbi-soft .viterbi-soft .last .1 .0)
+    soft-end (entry .args .values .now) (entry .args .information .now) (entry .pre .0) (entry .pre .1) (entry .pre .2) (at-viterbi-soft .viterbi-soft .last .1 .0)
     (at-viterbi-soft .viterbi-soft .kept .1 .0) (at-viterbi-soft .viterbi-soft .ensures) (at-count-signs .count-signs .ensures) (c .before .before .finish .ensures)
 
 pub search-cells-spec : {M : Type 1} → statement M
