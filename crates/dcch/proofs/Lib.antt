@@ -1,4 +1,4 @@
--- The laws of encoding and decoding, hard and soft, and the round trip.
+-- The laws of encoding and decoding, hard and soft, the round trip, what settles an answer, and what an accepted word is on the air.
 pub mod Inputs
 pub mod Encodings
 pub mod Finishing
@@ -6,3 +6,5 @@ pub mod Decodings
 pub mod SoftCells
 pub mod SoftDecodings
 pub mod RoundTrip
+pub mod OneAnswer
+pub mod Sent

@@ -1,21 +1,18 @@
 -- `decode` of `encode` is the information, corrected 0: the word of the block weighs nothing, and no other word has its coded bits.
 -- Assumes nothing.
-use mathlib.Core.Path.{_≡_, refl, sym, ap, ap₂, subst, _∙_}
-use mathlib.Core.Bool.{Bool, true, false, cond}
+use mathlib.Core.Path.{_≡_, refl, sym, ap, subst, _∙_}
+use mathlib.Core.Bool.{Bool, true, false}
 use mathlib.Core.List.{List, _++_, reverse, reverse-append, reverse-reverse}
-use Prim.Native.Nat.{ℕ, _+_, _*_, _/_, _≤_, _<_}
+use Prim.Native.Nat.{ℕ, _+_, _/_}
 use native.Mathlib.Omega.{arith}
-use lib.Dec.{eqb}
-use lib.ListN.{length, take, drop, replicate, length-append, length-reverse, length-map}
-use lib.Seq.{take-at, drop-at}
-use borrow.Author.Tests.{eq-eqb}
+use lib.ListN.{length, take, replicate, length-append, length-reverse, length-map}
+use lib.Seq.{take-at}
 use Rattle.bits.specs.Bits.{byte, bits, bytes, disagreements}
-use Rattle.bits.specs.Numbers.{packed, unpacked}
+use Rattle.bits.specs.Numbers.{unpacked}
 use Rattle.bits.specs.Refusals.{accepted}
-use Rattle.bits.specs.declared.arguments.Arguments.the-variants.{Passed, Refused}
-use Rattle.bits.specs.declared.Refusal.the-variants.{Symbol}
+use Rattle.bits.specs.declared.arguments.Arguments.the-variants.{Passed}
 use Rattle.bits.proofs.Binary.{bits-bytes, binary-bytes}
-use Rattle.bits.proofs.Packed.{packed-unpacked-below, unpacked-length}
+use Rattle.bits.proofs.Packed.{unpacked-length}
 use Rattle.bits.proofs.Tally.{disagreements-self, disagreements-none}
 use Rattle.coding.specs.Codes.{coded, dcch}
 use Rattle.coding.specs.Registers.{memoryHigh}
@@ -49,8 +46,8 @@ module _ (f : BlockFormat) (information : List Bool) (size : length information 
       length-append information (unpacked 16 (checksumOf information dvcc mode) ++ replicate 5 false)
       ∙ ap (λ (n : ℕ). length information + n) (length-append (unpacked 16 (checksumOf information dvcc mode)) (replicate 5 false) ∙ ap (λ (n : ℕ). n + 5) (unpacked-length 16 (checksumOf information dvcc mode)))
 
-  cells-length : length cells ≡ encodedBits f
-  unfolding cells cellsOf inputs
+  pub cells-length : length (cellsOf information dvcc mode) ≡ encodedBits f
+  unfolding cellsOf inputs
   cells-length = coded-length dcch (memoryHigh 0) inputs ∙ omega (arith, inputs-length, size, format-sizes f .0)
 
   -- the block's own word
