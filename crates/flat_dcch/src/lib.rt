@@ -7,9 +7,9 @@ use flat_coding::calls::flat_wrote;
 use flat_coding::calls::not_written;
 use flat_coding::mode_of;
 ghost use mathlib.Core.Path.{_≡_};
-ghost use Rattle.dcch.specs.Blocks.{Decoding, Encoding, decodeAnswer};
+ghost use Rattle.dcch.specs.Blocks.{Decoding, Encoding};
 ghost use Rattle.dcch.specs.SoftBlocks.{SoftDecoding};
-ghost use Rattle.flat_dcch.specs.Blocks.{FlatDecoded, flatCorrected, noBlock};
+ghost use Rattle.flat_dcch.specs.Blocks.{FlatDecoded, flatBlock, noBlock};
 ghost use Rattle.flat_coding.specs.Calls.{FlatWrote};
 ghost use Rattle.flat_coding.specs.Flat.{modeOf};
 
@@ -35,7 +35,7 @@ fn no_block(why: Refusal) -> Block
 }
 
 fn flat_decoded(answer: Decoded) -> Block
-    ensures { λ r. ⌜ r ≡ flatCorrected (decodeAnswer answer) ⌝ }
+    ensures { λ r. ⌜ r ≡ flatBlock answer ⌝ }
 {
     match answer {
         Decoded::Accepted(corrected) => Block {
