@@ -6,5 +6,6 @@ pub mod Ordering
 pub mod Inputs
 pub mod Framing
 pub mod Restoring
+pub mod Meaning
 pub mod Settling
 pub mod OwnInputs

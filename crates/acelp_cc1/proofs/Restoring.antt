@@ -17,7 +17,7 @@ use Rattle.bits.proofs.Listed.{length-listed, getD-listed, map-taken, is-listed
 use Rattle.bits.proofs.Packed.{packed-below, packed-unpacked-below}
 use Rattle.checksums.specs.Checksums.{checksum7Of, checkBits, speech}
 use Rattle.checksums.proofs.Division.{checkBits-length}
-use Rattle.acelp_cc1.specs.Calls.{Told, Finished, inputsValid}
+use Rattle.acelp_cc1.specs.Calls.{Told, inputsValid, acceptedExit}
 use Rattle.acelp_cc1.specs.Frames.{speechOrder, informationPlace, informationPlaces, parityPlaces, parityOf, classOneOf, checkOf, unordered}
 use Rattle.acelp_cc1.specs.Places.{taken, put}
 use Rattle.acelp_cc1.proofs.Ordering.{bytes-drop, put-unordered, unordered-bytes}
@@ -89,13 +89,14 @@ module _ (u w : List Bool) {sorted : List ℕ} (e : sorted ≡ bytes (classOneOf
   unfolding inputsValid
   valid-value g f = ap₂ eqb g (sym (parity-value f))
 
-  pub finished : (frame speech₀ : List ℕ) {places written : List ℕ} {received checksum corrected : ℕ} {answer : Answer Told} → w ≡ drop 208 (bits frame) → length speech₀ ≡ 148
+  pub accepted-end : (frame speech₀ : List ℕ) {places written : List ℕ} {received checksum corrected : ℕ} {answer : Answer Told} → w ≡ drop 208 (bits frame) → length speech₀ ≡ 148
       → received ≡ packed (checkOf u) → checksum ≡ checksum7Of (bits (take 48 sorted)) → places ≡ speechOrder → written ≡ put places sorted speech₀
-      → answer ≡ accepted (record { valid = eqb received checksum; corrected = corrected }) → Finished u frame corrected written answer
-  finished frame speech₀ {corrected = corrected} two room g f ep ew ea =
-      record {
-        written =
-            put-unordered sorted speech₀ room ep ew ∙ ap (unordered 0) e ∙ unordered-bytes (classOneOf u ++ w)
-            ∙ ap (λ (v : List Bool). bytes (unordered false (classOneOf u ++ v))) two;
-        told = ea ∙ ap (λ (t : Bool). accepted (record { valid = t; corrected = corrected })) (valid-value g f);
-      }
+      → answer ≡ accepted (record { valid = eqb received checksum; corrected = corrected }) → record { answer = answer; speech = written } ≡ acceptedExit frame u corrected
+  unfolding acceptedExit
+  accepted-end frame speech₀ {written = written} {corrected = corrected} {answer = answer} two room g f ep ew ea =
+      let told : answer ≡ accepted (record { valid = inputsValid u; corrected = corrected }) =
+      ea ∙ ap (λ (t : Bool). accepted (record { valid = t; corrected = corrected })) (valid-value g f) in
+      let bytes-are : written ≡ bytes (unordered false (classOneOf u ++ drop 208 (bits frame))) =
+      put-unordered sorted speech₀ room ep ew ∙ ap (unordered 0) e ∙ unordered-bytes (classOneOf u ++ w)
+      ∙ ap (λ (v : List Bool). bytes (unordered false (classOneOf u ++ v))) two in
+      λ i. record { answer = told i; speech = bytes-are i }

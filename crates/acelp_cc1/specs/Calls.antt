@@ -1,5 +1,4 @@
 -- What `encode` and `decode` do.
-use mathlib.Core.Path.{_≡_}
 use mathlib.Core.Bool.{Bool, false}
 use mathlib.Core.List.{List, _++_, reverse}
 use Prim.Native.Nat.{ℕ}
@@ -15,8 +14,7 @@ use Rattle.bits.specs.declared.arguments.Arguments.the-variants.{Passed, Refuse
 use Rattle.bits.specs.declared.Refusal.{Refusal}
 use Rattle.bits.specs.declared.Refusal.the-variants as refusal
 use Rattle.bits.specs.declared.Wrote.{Wrote}
-use Rattle.trellis.specs.Search.{Nearest, Ambiguous}
-use Rattle.trellis.specs.Words.{Terminated}
+use Rattle.trellis.specs.Nearest.{terminatedWords, decided}
 use Rattle.puncturing.specs.Punctured.{weight}
 use Rattle.acelp_cc1.specs.Frames.{unordered, parityOf, classOneOf, checkOf, frameOf}
 use Rattle.acelp_cc1.specs.declared.Decoded.{Decoded}
@@ -50,26 +48,35 @@ inputsValid inputs = eqb (packed (checkOf inputs)) (packed (parityOf (classOneOf
 abbrev pub frameWeight : List ℕ → List Bool → ℕ
 frameWeight frame = weight (take 208 (bits frame))
 
--- one nearest word alone among all inputs that end in five zeros: its class-one bits with class two as received, in the codec's order
-pub record Settled (frame speech : List ℕ) (answer : Answer Told) : Type 0 where
-  pub word : List Bool
-  pub nearest : Nearest (Terminated 108) (frameWeight frame) word
-  pub written : speech ≡ bytes (unordered false (classOneOf (reverse word) ++ drop 208 (bits frame)))
-  pub told : answer ≡ accepted (record { valid = inputsValid (reverse word); corrected = frameWeight frame word })
+-- what a call leaves: its answer, and the speech bytes at exit
+pub record Exit : Type 0 where
+  pub answer : Answer Told
+  pub speech : List ℕ
 
--- the end of a decoding, with the inputs of a word
-pub record Finished (inputs : List Bool) (frame : List ℕ) (corrected : ℕ) (speech : List ℕ) (answer : Answer Told) : Type 0 where
-  pub written : speech ≡ bytes (unordered false (classOneOf inputs ++ drop 208 (bits frame)))
-  pub told : answer ≡ accepted (record { valid = inputsValid inputs; corrected = corrected })
+abbrev pub exitOf : Decoded → List ℕ → Exit
+exitOf r speech = record { answer = decodeAnswer r; speech = speech }
 
--- a search that ended
-pub record Answered (frame speech₀ speech : List ℕ) (answer : Answer Told) : Type 0 where
-  pub unclear : Ambiguous (Terminated 108) (frameWeight frame) → (answer ≡ refused refusal.Ambiguous) × (speech ≡ speech₀)
-  pub settled : (Ambiguous (Terminated 108) (frameWeight frame) → ⊥) → Settled frame speech answer
+-- a refusal leaves the bytes as they were lent
+abbrev pub refusedExit : Refusal → List ℕ → Exit
+refusedExit why speech = record { answer = refused why; speech = speech }
 
--- refused with nothing written; Ambiguous exactly where two distinct words share the fewest disagreements; or settled
-pub record Decoding (frame speech₀ speech : List ℕ) (answer : Answer Told) : Type 0 where
-  pub declined : (why : Refusal) → decodeArguments frame (length speech₀) ≡ Refused why → (answer ≡ refused why) × (speech ≡ speech₀)
-  pub unclear : decodeArguments frame (length speech₀) ≡ Passed → Ambiguous (Terminated 108) (frameWeight frame)
-      → (answer ≡ refused refusal.Ambiguous) × (speech ≡ speech₀)
-  pub settled : decodeArguments frame (length speech₀) ≡ Passed → (Ambiguous (Terminated 108) (frameWeight frame) → ⊥) → Settled frame speech answer
+-- the class-one bits of inputs that have so many disagreements with class two as received, in the codec's order
+unfoldable pub acceptedExit : List ℕ → List Bool → ℕ → Exit
+acceptedExit frame inputs corrected = record {
+  answer = accepted (record { valid = inputsValid inputs; corrected = corrected });
+  speech = bytes (unordered false (classOneOf inputs ++ drop 208 (bits frame)));
+}
+
+-- Of the words of 108 inputs that end in five zeros the one that alone has the fewest disagreements is accepted, with their number; where two or more share the
+-- fewest, Ambiguous.
+unfoldable pub decodeOf : List ℕ → List ℕ → Exit
+decodeOf frame speech =
+    decided (terminatedWords 108) (frameWeight frame) (λ (w : List Bool) (corrected : ℕ). acceptedExit frame (reverse w) corrected) (refusedExit refusal.Ambiguous speech)
+
+abbrev pub decoding : Arguments → List ℕ → List ℕ → Exit
+decoding (Refused why) frame speech = refusedExit why speech
+decoding Passed frame speech = decodeOf frame speech
+
+-- the whole call, of a frame and what was lent for its speech bits
+abbrev pub decodeCall : List ℕ → List ℕ → Exit
+decodeCall frame speech = decoding (decodeArguments frame (length speech)) frame speech

@@ -20,7 +20,7 @@ ghost use lib.ListN.{drop, length};
 ghost use Rattle.bits.specs.Bits.{allBinary, bits, bytes};
 ghost use Rattle.bits.specs.Numbers.{packed};
 ghost use Rattle.bits.specs.Refusals.{accepted};
-ghost use Rattle.acelp_cc1.specs.Calls.{Answered, Decoding, Finished, decodeAnswer};
+ghost use Rattle.acelp_cc1.specs.Calls.{acceptedExit, decodeAnswer, decodeCall, decodeOf, exitOf};
 ghost use Rattle.acelp_cc1.specs.Frames.{checkOf, classOneOf};
 
 // Writes the ordered bits: the class-one bits of the inputs, and class two as received.
@@ -57,7 +57,7 @@ fn accept(valid: bool, corrected: u16) -> Decoded
 // Writes the codec bits of the inputs and class two, and tells whether the checksum is right.
 fn finish(inputs: &[u8], frame: &[u8], corrected: u16, speech: &mut [u8]) -> Decoded
     requires { ⌜ (length (now inputs) ≡ 108) × (allBinary (now inputs) ≡ true) × (length (now frame) ≡ 260) × (allBinary (now frame) ≡ true) × (length (now speech) ≡ 148) ⌝ }
-    ensures { λ r. ⌜ Finished (bits (now (inputs .entry))) (now (frame .entry)) corrected (now (speech .exit)) (decodeAnswer r) ⌝ }
+    ensures { λ r. ⌜ exitOf r (now (speech .exit)) ≡ acceptedExit (now (frame .entry)) (bits (now (inputs .entry))) corrected ⌝ }
 {
     let mut sorted = [0u8; 148];
     restore(inputs, frame, &mut sorted);
@@ -71,7 +71,7 @@ fn finish(inputs: &[u8], frame: &[u8], corrected: u16, speech: &mut [u8]) -> Dec
 // Decodes bits.
 fn answer(frame: &[u8], speech: &mut [u8]) -> Decoded
     requires { ⌜ (length (now frame) ≡ 260) × (allBinary (now frame) ≡ true) × (length (now speech) ≡ 148) ⌝ }
-    ensures { λ r. ⌜ Answered (now (frame .entry)) (now (speech .entry)) (now (speech .exit)) (decodeAnswer r) ⌝ }
+    ensures { λ r. ⌜ exitOf r (now (speech .exit)) ≡ decodeOf (now (frame .entry)) (now (speech .entry)) ⌝ }
 {
     let mut inputs = [0u8; 108];
     let found = punctured(&frame[..208], &mut inputs);
@@ -83,7 +83,7 @@ fn answer(frame: &[u8], speech: &mut [u8]) -> Decoded
 
 // Writes the codec bits of the frame nearest to the protected bits.
 pub fn decode(frame: &[u8], speech: &mut [u8]) -> Decoded
-    ensures { λ r. ⌜ Decoding (now (frame .entry)) (now (speech .entry)) (now (speech .exit)) (decodeAnswer r) ⌝ }
+    ensures { λ r. ⌜ exitOf r (now (speech .exit)) ≡ decodeCall (now (frame .entry)) (now (speech .entry)) ⌝ }
 {
     let ready = bits_and_room(260, frame, 148, speech.len());
     if let Arguments::Refused(why) = ready {

@@ -5,7 +5,7 @@ ghost use Rattle.acelp_cc1.specs.Calls as acelp_calls;
 ghost use Rattle.acelp_interleaver.specs.Wire as acelp_wire;
 ghost use Rattle.acelp_interleaver.specs.declared.Interleaving.the-variants.{One, Two, Three};
 ghost use Rattle.flat_coding.specs.Calls.{FlatWrote};
-ghost use Rattle.flat_speech.specs.Frames.{FlatFrame, acelpFrame, vselpFrame};
+ghost use Rattle.flat_speech.specs.Frames.{AcelpExit, VselpExit};
 ghost use Rattle.speech.specs.Calls as vselp_calls;
 ghost use Rattle.speech_interleaver.specs.Wire as vselp_wire;
 
@@ -28,7 +28,7 @@ pub extern "C" fn bts136_speech_decode_candidate(
     class_one: &mut [u8],
     class_two: &mut [u8],
 ) -> Frame
-    ensures { λ r. ⌜ FlatFrame vselpFrame (vselp_calls.Decoding (now (frame .entry)) (now («class_one» .entry)) (now («class_two» .entry)) (now («class_one» .exit)) (now («class_two» .exit))) r ⌝ }
+    ensures { λ r. ⌜ VselpExit (vselp_calls.decodeCall (now (frame .entry)) (now («class_one» .entry)) (now («class_two» .entry))) (now («class_one» .exit)) (now («class_two» .exit)) r ⌝ }
 {
     flat_speech::vselp_decode_candidate(frame, class_one, class_two)
 }
@@ -68,7 +68,7 @@ pub extern "C" fn bts136_acelp_encode(speech: &[u8], frame: &mut [u8]) -> Writte
 // Decodes a frame of 260 bits to the one nearest word and writes 148 bits in the codec's order; valid tells its checksum. Refused: 1, 2, 5.
 #[no_mangle]
 pub extern "C" fn bts136_acelp_decode(frame: &[u8], speech: &mut [u8]) -> Frame
-    ensures { λ r. ⌜ FlatFrame acelpFrame (acelp_calls.Decoding (now (frame .entry)) (now (speech .entry)) (now (speech .exit))) r ⌝ }
+    ensures { λ r. ⌜ AcelpExit (acelp_calls.decodeCall (now (frame .entry)) (now (speech .entry))) (now (speech .exit)) r ⌝ }
 {
     flat_speech::acelp_decode(frame, speech)
 }

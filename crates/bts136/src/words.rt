@@ -1,13 +1,13 @@
 // FACCH words and the slots that carry them.
 use flat_coding::calls::Written;
 use flat_facch::Word;
-ghost use Rattle.facch.specs.Decoding.{Decoding};
-ghost use Rattle.facch.specs.Decoding.{decodeArguments, erasedArguments};
+ghost use mathlib.Core.Path.{_≡_};
+ghost use Rattle.facch.specs.Decoding.{decodeArguments, decoding, erasedArguments};
 ghost use Rattle.facch_interleaver.specs.Wire.{Deinterleaving, Interleaving, Observing};
 ghost use Rattle.facch_interleaver.specs.declared.WordHalf.the-variants.{End, Start};
 ghost use Rattle.facch.specs.Words.{Encoding};
 ghost use Rattle.flat_coding.specs.Calls.{FlatWrote};
-ghost use Rattle.flat_facch.specs.Words.{FlatDecoded};
+ghost use Rattle.flat_facch.specs.Words.{flatContent};
 
 // Codes a word into 260 bits. message has 48 bits, the first highest. Refused: 1; 2 for a message of 2^48 or more.
 #[no_mangle]
@@ -65,7 +65,7 @@ pub extern "C" fn bts136_facch_observe_end(slot: &[u8], coded: &mut [u8]) -> Wri
 // Decodes the 260 bits of a word to the one nearest word. Refused: 1, 2, 5, 3.
 #[no_mangle]
 pub extern "C" fn bts136_facch_decode(coded: &[u8], dvcc: u8) -> Word
-    ensures { λ r. ⌜ FlatDecoded (Decoding (decodeArguments (now (coded .entry))) (now (coded .entry)) dvcc) r ⌝ }
+    ensures { λ r. ⌜ r ≡ flatContent (decoding (decodeArguments (now (coded .entry))) (now (coded .entry)) dvcc) ⌝ }
 {
     flat_facch::decode(coded, dvcc)
 }
@@ -73,7 +73,7 @@ pub extern "C" fn bts136_facch_decode(coded: &[u8], dvcc: u8) -> Word
 // The same, where the byte 2 is a bit that was not observed; disagreements are counted over observed bits. Refused: 1, 2, 4, 5, 3.
 #[no_mangle]
 pub extern "C" fn bts136_facch_decode_erased(coded: &[u8], dvcc: u8) -> Word
-    ensures { λ r. ⌜ FlatDecoded (Decoding (erasedArguments (now (coded .entry))) (now (coded .entry)) dvcc) r ⌝ }
+    ensures { λ r. ⌜ r ≡ flatContent (decoding (erasedArguments (now (coded .entry))) (now (coded .entry)) dvcc) ⌝ }
 {
     flat_facch::decode_erased(coded, dvcc)
 }

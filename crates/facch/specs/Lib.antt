@@ -1,5 +1,4 @@
--- FACCH words and their coded bits (Words), the nearest word (Search), what the decoders do (Decoding), and their answer as one definition (Answers).
+-- FACCH words and their coded bits (Words), the nearest word (Search), and what the decoders answer (Decoding).
 pub mod Words
 pub mod Search
 pub mod Decoding
-pub mod Answers

@@ -15,12 +15,12 @@ ghost use Prim.Native.Nat.{_≤_};
 ghost use lib.ListN.{length};
 ghost use Rattle.bits.specs.Bits.{allBinary, bits};
 ghost use Rattle.bits.specs.Observed.{allErasable, observedCount};
-ghost use Rattle.facch.specs.Decoding.{Answered, Decoding, Finished, decodeAnswer, decodeArguments, erasedArguments};
+ghost use Rattle.facch.specs.Decoding.{decodeAnswer, decodeArguments, decodeOf, decoding, erasedArguments, finished};
 
 // The content of a word, where its checksum is right.
 fn finish(word: &[u8], corrected: u16, observed: u16, dvcc: u8) -> Decoded
     requires { ⌜ (length (now word) ≡ 65) × (allBinary (now word) ≡ true) ⌝ }
-    ensures { λ r. ⌜ Finished (bits (now (word .entry))) corrected observed dvcc (decodeAnswer r) ⌝ }
+    ensures { λ r. ⌜ decodeAnswer r ≡ finished (bits (now (word .entry))) corrected observed dvcc ⌝ }
 {
     let right = crc_valid(49, word, dvcc, CrcMode::Addressed);
     if !right {
@@ -40,7 +40,7 @@ fn finish(word: &[u8], corrected: u16, observed: u16, dvcc: u8) -> Decoded
 fn settle(coded: &[u8], observed: u16, dvcc: u8) -> Decoded
     requires { ⌜ (length (now coded) ≡ 260) × (allErasable (now coded) ≡ true) ⌝ }
     requires { ⌜ (observed ≡ observedCount (now coded)) × (65 ≤ observed) ⌝ }
-    ensures { λ r. ⌜ Answered (now (coded .entry)) dvcc (decodeAnswer r) ⌝ }
+    ensures { λ r. ⌜ decodeAnswer r ≡ decodeOf (now (coded .entry)) dvcc ⌝ }
 {
     let mut word = [0u8; 65];
     let found = nearest_word(coded, &mut word);
@@ -53,7 +53,7 @@ fn settle(coded: &[u8], observed: u16, dvcc: u8) -> Decoded
 // Decodes bytes 0, 1 and 2.
 fn answer(coded: &[u8], dvcc: u8) -> Decoded
     requires { ⌜ (length (now coded) ≡ 260) × (allErasable (now coded) ≡ true) ⌝ }
-    ensures { λ r. ⌜ Answered (now (coded .entry)) dvcc (decodeAnswer r) ⌝ }
+    ensures { λ r. ⌜ decodeAnswer r ≡ decodeOf (now (coded .entry)) dvcc ⌝ }
 {
     let observed = count_observed(coded);
     if observed < 65 {
@@ -64,7 +64,7 @@ fn answer(coded: &[u8], dvcc: u8) -> Decoded
 
 // The content of the word nearest to the coded bits over those that are observed; a byte 2 is not.
 pub fn decode_erased(coded: &[u8], dvcc: u8) -> Decoded
-    ensures { λ r. ⌜ Decoding (erasedArguments (now (coded .entry))) (now (coded .entry)) dvcc (decodeAnswer r) ⌝ }
+    ensures { λ r. ⌜ decodeAnswer r ≡ decoding (erasedArguments (now (coded .entry))) (now (coded .entry)) dvcc ⌝ }
 {
     let ready = exact_erasable(260, coded);
     if let Arguments::Refused(why) = ready {
@@ -75,7 +75,7 @@ pub fn decode_erased(coded: &[u8], dvcc: u8) -> Decoded
 
 // The same of bits that are all observed.
 pub fn decode(coded: &[u8], dvcc: u8) -> Decoded
-    ensures { λ r. ⌜ Decoding (decodeArguments (now (coded .entry))) (now (coded .entry)) dvcc (decodeAnswer r) ⌝ }
+    ensures { λ r. ⌜ decodeAnswer r ≡ decoding (decodeArguments (now (coded .entry))) (now (coded .entry)) dvcc ⌝ }
 {
     let ready = exact_bits(260, coded);
     if let Arguments::Refused(why) = ready {

@@ -7,7 +7,7 @@ use native.Mathlib.Omega.{arith}
 use lib.Dec.{T}
 use lib.ListN.{length, getD, List·getD-map}
 use Rattle.bits.specs.Bits.{byte, bytes, allBinary}
-use Rattle.bits.specs.Refusals.{Answer, accepted}
+use Rattle.bits.specs.Refusals.{accepted}
 use Rattle.bits.specs.declared.arguments.Arguments.the-variants.{Passed}
 use Rattle.bits.proofs.Tally.{tally-zero, zero-at}
 use Rattle.bits.proofs.Binary.{byte-below, differ-same, differ-none}
@@ -20,8 +20,7 @@ use Rattle.bits.specs.declared.Wrote.{Wrote}
 use Rattle.interleaving.specs.Calls.{twoArguments}
 use Rattle.facch_interleaver.specs.Wire.{interleaved, observed, Interleaving, Observing}
 use Rattle.facch.specs.Words.{wordOf, tailBiting, Encoding}
-use Rattle.facch.specs.Decoding.{Content, contentOf, Decoding}
-use Rattle.facch.specs.Decoding.{erasedArguments}
+use Rattle.facch.specs.Decoding.{contentOf, decoding, erasedArguments}
 use Rattle.facch.specs.Search.{weight}
 use Rattle.bits.proofs.Refusing.{erasable-passed, room-passed}
 use Rattle.facch_laws.proofs.Halves.{slotted, carries, slotOf, observed-length, word-observed, half-count}
@@ -81,53 +80,49 @@ module _ (half : WordHalf) (w : List Bool) (size : length w ≡ 65) (other : Lis
       ∙ zero-at erasedDiffer false 0 (tailBiting u) received z place (omega (arith, biting-length u hu)) (omega (arith, received-size))))
 
 -- ---- the word of a message
--- the message comes back
-abbrev pub Read : Bool → ℕ → Answer Content → Type 0
-Read continuation message answer = answer ≡ accepted (record { continuation = continuation; message = message; corrected = 0; observed = 130 })
+-- what is read of 260 bytes 0, 1 and 2: the message comes back
+abbrev pub Read : Bool → ℕ → ℕ → List ℕ → Type 0
+Read continuation message dvcc received =
+    decoding (erasedArguments received) received dvcc ≡ accepted (record { continuation = continuation; message = message; corrected = 0; observed = 130 })
 
 module _ (continuation : Bool) (message dvcc : ℕ) (h : message < 2 ^ 48) where
   abbrev pub sent : List ℕ
   sent = bytes (tailBiting (wordOf continuation message dvcc))
 
-  half-trip : (half : WordHalf) (other : List ℕ) {answer : Answer Content}
-      → Decoding (erasedArguments (observed half (slotOf half other sent))) (observed half (slotOf half other sent)) dvcc answer → Read continuation message answer
-  half-trip half other d =
+  half-trip : (half : WordHalf) (other : List ℕ) → Read continuation message dvcc (observed half (slotOf half other sent))
+  half-trip half other =
       let w : List Bool = wordOf continuation message dvcc in
       let size : length w ≡ 65 = word-length continuation message dvcc in
       let n : observedCount (observed half (slotOf half other sent)) ≡ 130 = many half w size other in
-      agreed (observed half (slotOf half other sent)) w size (agrees half w size other) (only half w size other) d (passed half w size other) (omega (arith, n))
+      agreed (observed half (slotOf half other sent)) w size (agrees half w size other) (only half w size other) _ dvcc (passed half w size other) (omega (arith, n))
       (valid-own continuation message dvcc)
       ∙ ap accepted (ap (λ (k : ℕ). contentOf w 0 k) n ∙ content-own continuation message dvcc 130 h)
 
   -- from the first of its slots, whatever word that finishes
-  pub start-trip : (other : List ℕ) {answer : Answer Content}
-      → Decoding (erasedArguments (observed Start (interleaved 0 other sent))) (observed Start (interleaved 0 other sent)) dvcc answer → Read continuation message answer
-  start-trip other d = half-trip Start other d
+  pub start-trip : (other : List ℕ) → Read continuation message dvcc (observed Start (interleaved 0 other sent))
+  start-trip other = half-trip Start other
 
   -- from the second, whatever word starts in it
-  pub end-trip : (other : List ℕ) {answer : Answer Content}
-      → Decoding (erasedArguments (observed End (interleaved 0 sent other))) (observed End (interleaved 0 sent other)) dvcc answer → Read continuation message answer
-  end-trip other d = half-trip End other d
+  pub end-trip : (other : List ℕ) → Read continuation message dvcc (observed End (interleaved 0 sent other))
+  end-trip other = half-trip End other
 
   -- ---- the same of the calls
   observed-trip : (half : WordHalf) (other : List ℕ) (r : Wrote) {slot received₀ received : List ℕ} → length received₀ ≡ 260
       → (slot ≡ slotOf half other sent) × (length slot ≡ 260) × (allBinary slot ≡ true) → Observing slot half received₀ received r
-      → {answer : Answer Content} → Decoding (erasedArguments received) received dvcc answer → Read continuation message answer
-  observed-trip half other r {slot} {received₀} room s o {answer} d =
-      half-trip half other
-      (subst (λ (l : List ℕ). Decoding (erasedArguments l) l dvcc answer)
-      (o .done (room-passed 260 slot 260 (length received₀) (s .1) room (s .2)) .1 ∙ ap (observed half) (s .0)) d)
+      → Read continuation message dvcc received
+  observed-trip half other r {slot} {received₀} room s o =
+      subst (Read continuation message dvcc) (sym (o .done (room-passed 260 slot 260 (length received₀) (s .1) room (s .2)) .1 ∙ ap (observed half) (s .0))) (half-trip half other)
 
   module _ {coded₀ coded : List ℕ} (r : Wrote) (room : length coded₀ ≡ 260) (e : Encoding continuation message dvcc coded₀ coded r)
       (other : List ℕ) (r′ r″ : Wrote) {slot₀ slot received₀ received : List ℕ} (room′ : length received₀ ≡ 260) where
     pub calls-start-trip : twoArguments other coded (length slot₀) ≡ Passed → Interleaving other coded slot₀ slot r′ → Observing slot Start received₀ received r″
-        → {answer : Answer Content} → Decoding (erasedArguments received) received dvcc answer → Read continuation message answer
-    calls-start-trip f i o d =
+        → Read continuation message dvcc received
+    calls-start-trip f i o =
         let s = slotted other coded r′ f i in
-        observed-trip Start other r″ room′ (s .0 ∙ ap (interleaved 0 other) (written continuation message dvcc h r room e), s .1, s .2) o d
+        observed-trip Start other r″ room′ (s .0 ∙ ap (interleaved 0 other) (written continuation message dvcc h r room e), s .1, s .2) o
 
     pub calls-end-trip : twoArguments coded other (length slot₀) ≡ Passed → Interleaving coded other slot₀ slot r′ → Observing slot End received₀ received r″
-        → {answer : Answer Content} → Decoding (erasedArguments received) received dvcc answer → Read continuation message answer
-    calls-end-trip f i o d =
+        → Read continuation message dvcc received
+    calls-end-trip f i o =
         let s = slotted coded other r′ f i in
-        observed-trip End other r″ room′ (s .0 ∙ ap (λ (l : List ℕ). interleaved 0 l other) (written continuation message dvcc h r room e), s .1, s .2) o d
+        observed-trip End other r″ room′ (s .0 ∙ ap (λ (l : List ℕ). interleaved 0 l other) (written continuation message dvcc h r room e), s .1, s .2) o

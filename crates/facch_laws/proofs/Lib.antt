@@ -3,6 +3,6 @@ pub mod Taps
 pub mod Shown
 pub mod Halves
 pub mod Determined
-pub mod OneAnswer
+pub mod SameCalls
 pub mod RoundTrip
 pub mod HalfTrip

@@ -1,7 +1,7 @@
 -- `decode` of `encode` is the message, corrected 0: the word of the coded bits weighs nothing, and no other word has them.
 -- In general, where one word agrees with what was observed, that word is decoded. Assumes nothing.
-use mathlib.Core.Path.{_≡_, refl, sym, ap, ap₂, subst, _∙_}
-use mathlib.Core.Bool.{Bool, true, false}
+use mathlib.Core.Path.{_≡_, refl, sym, ap, ap₂, _∙_}
+use mathlib.Core.Bool.{Bool, true, false, cond}
 use mathlib.Core.List.{List, [], _∷_, _++_, reverse}
 use Prim.Native.Nat.{ℕ, _+_, _^_, _≤_, _<_}
 use native.Mathlib.Omega.{arith}
@@ -9,10 +9,11 @@ use lib.ListN.{length, take, drop, length-append, length-drop, length-map, repli
 use lib.Seq.{length-take-le}
 use Rattle.bits.specs.Bits.{byte, bytes, differ, tally, disagreements}
 use Rattle.bits.specs.Numbers.{packed, unpacked}
-use Rattle.bits.specs.Refusals.{Answer, accepted}
+use Rattle.bits.specs.Refusals.{accepted, refused}
 use Rattle.bits.specs.Arguments.{firstRefusal}
 use Rattle.bits.specs.declared.arguments.Arguments.{Arguments}
 use Rattle.bits.specs.declared.arguments.Arguments.the-variants.{Passed}
+use Rattle.bits.specs.declared.Refusal.the-variants as refusal
 use Rattle.bits.proofs.Binary.{binary-bytes}
 use Rattle.bits.proofs.Tally.{disagreements-self, disagreements-none}
 use Rattle.coding.specs.Codes.{tapped, coded, facch}
@@ -20,14 +21,15 @@ use Rattle.checksums.specs.Checksums.{checksumOf, divided, added}
 use Rattle.coding.proofs.Coded.{coded-length}
 use Rattle.trellis.specs.Search.{Nearest, Ambiguous}
 use Rattle.trellis.specs.Words.{OfLength}
+use Rattle.trellis.proofs.Decided.{decided-alone}
 use Rattle.bits.specs.Observed.{erasedDiffer, observedOne, observedCount}
 use Rattle.bits.specs.declared.Wrote.{Wrote}
 use Rattle.words.specs.Words.{madeOf}
 use Rattle.words.proofs.Made.{made-length, made-valid, made-message}
 use Rattle.facch.specs.Words.{wordOf, tailBiting, Encoding}
-use Rattle.facch.specs.Decoding.{Content, contentOf, wordValid, Settled, Decoding}
-use Rattle.facch.specs.Decoding.{erasedArguments, decodeArguments}
+use Rattle.facch.specs.Decoding.{contentOf, wordValid, finished, decoding, erasedArguments, decodeArguments}
 use Rattle.facch.specs.Search.{weight}
+use Rattle.facch.proofs.Meaning.{facch-decided}
 use Rattle.bits.proofs.Refusing.{exact-passed, binary-passed, below-passed, erasable-passed}
 use Rattle.bits.proofs.Erased.{binary-erasable}
 use Rattle.facch_laws.proofs.Determined.{whole-determines}
@@ -41,13 +43,13 @@ module _ (received : List ℕ) (w : List Bool) (size : length w ≡ 65) (agrees 
   clear : Ambiguous (OfLength 65) (weight received) → ⊥
   clear a = a .distinct (nearest-is (a .one) (a .one-nearest) ∙ sym (nearest-is (a .other) (a .other-nearest)))
 
-  pub agreed : {arguments : Arguments} {dvcc : ℕ} {answer : Answer Content} → Decoding arguments received dvcc answer → arguments ≡ Passed → 65 ≤ observedCount received → wordValid w dvcc ≡ true
-      → answer ≡ accepted (contentOf w 0 (observedCount received))
-  agreed {arguments} {dvcc} {answer} d passed many right =
-      let s : Settled received dvcc answer = d .answered passed .settled many clear in
-      let e : s .word ≡ w = nearest-is (s .word) (s .nearest) in
-      s .finished .taken (ap (λ (u : List Bool). wordValid u dvcc) e ∙ right)
-      ∙ ap₂ (λ (u : List Bool) (n : ℕ). accepted (contentOf u n (observedCount received))) e (ap (weight received) e ∙ agrees)
+  pub agreed : (arguments : Arguments) (dvcc : ℕ) → arguments ≡ Passed → 65 ≤ observedCount received → wordValid w dvcc ≡ true
+      → decoding arguments received dvcc ≡ accepted (contentOf w 0 (observedCount received))
+  unfolding finished
+  agreed arguments dvcc passed many right =
+      ap (λ (l : Arguments). decoding l received dvcc) passed
+      ∙ decided-alone (facch-decided received dvcc many) (record { word = size; least = λ u h. omega (arith, agrees) }) clear
+      ∙ ap₂ (λ (b : Bool) (n : ℕ). cond b (accepted (contentOf w n (observedCount received))) (refused refusal.Crc)) right agrees
 
 -- ---- bits that are all observed
 pub erased-byte : (a b : Bool) → erasedDiffer a (byte b) ≡ differ a b
@@ -110,13 +112,13 @@ module _ (continuation : Bool) (message dvcc : ℕ) where
   content-own observed h = ap (λ (n : ℕ). record { continuation = continuation; message = n; corrected = 0; observed = observed }) (made-message (continuation ∷ []) message dvcc refl h)
 
   -- a word's own coded bits, taken by either call
-  own-bits : (arguments : Arguments) → arguments ≡ Passed → message < 2 ^ 48 → {answer : Answer Content} → Decoding arguments (bytes (tailBiting (wordOf continuation message dvcc))) dvcc answer
-      → answer ≡ accepted (record { continuation = continuation; message = message; corrected = 0; observed = 260 })
-  own-bits arguments passed h d =
+  own-bits : (arguments : Arguments) → arguments ≡ Passed → message < 2 ^ 48
+      → decoding arguments (bytes (tailBiting (wordOf continuation message dvcc))) dvcc ≡ accepted (record { continuation = continuation; message = message; corrected = 0; observed = 260 })
+  own-bits arguments passed h =
       let w : List Bool = wordOf continuation message dvcc in
       let size : length w ≡ 65 = word-length in
       let n : observedCount (bytes (tailBiting w)) ≡ 260 = all-observed (tailBiting w) ∙ biting-length w size in
-      agreed (bytes (tailBiting w)) w size (own-weight w size) (λ u hu e. only-own w u size hu e) d passed (omega (arith, n)) valid-own
+      agreed (bytes (tailBiting w)) w size (own-weight w size) (λ u hu e. only-own w u size hu e) arguments dvcc passed (omega (arith, n)) valid-own
       ∙ ap accepted (ap (λ (k : ℕ). contentOf w 0 k) n ∙ content-own 260 h)
 
   module _ (h : message < 2 ^ 48) {coded₀ coded : List ℕ} (r : Wrote) (room : length coded₀ ≡ 260) (e : Encoding continuation message dvcc coded₀ coded r) where
@@ -124,26 +126,23 @@ module _ (continuation : Bool) (message dvcc : ℕ) where
     written = e .done (ap₂ firstRefusal (exact-passed 260 (length coded₀) room) (below-passed (2 ^ 48) message h)) .1
 
     -- what `encode` writes, `decode` reads
-    pub facch-round-trip : {answer : Answer Content} → Decoding (decodeArguments coded) coded dvcc answer
-        → answer ≡ accepted (record { continuation = continuation; message = message; corrected = 0; observed = 260 })
-    facch-round-trip {answer} d =
-        own-bits (decodeArguments (bytes (tailBiting (wordOf continuation message dvcc)))) (passed-decode (wordOf continuation message dvcc) word-length) h
-        (subst (λ (l : List ℕ). Decoding (decodeArguments l) l dvcc answer) written d)
+    pub facch-round-trip : decoding (decodeArguments coded) coded dvcc ≡ accepted (record { continuation = continuation; message = message; corrected = 0; observed = 260 })
+    facch-round-trip =
+        let w : List Bool = wordOf continuation message dvcc in
+        ap (λ (l : List ℕ). decoding (decodeArguments l) l dvcc) written ∙ own-bits (decodeArguments (bytes (tailBiting w))) (passed-decode w word-length) h
 
     -- and so does `decode_erased`
-    pub facch-round-trip-erased : {answer : Answer Content} → Decoding (erasedArguments coded) coded dvcc answer
-        → answer ≡ accepted (record { continuation = continuation; message = message; corrected = 0; observed = 260 })
-    facch-round-trip-erased {answer} d =
-        own-bits (erasedArguments (bytes (tailBiting (wordOf continuation message dvcc)))) (passed-erased (wordOf continuation message dvcc) word-length) h
-        (subst (λ (l : List ℕ). Decoding (erasedArguments l) l dvcc answer) written d)
+    pub facch-round-trip-erased : decoding (erasedArguments coded) coded dvcc ≡ accepted (record { continuation = continuation; message = message; corrected = 0; observed = 260 })
+    facch-round-trip-erased =
+        let w : List Bool = wordOf continuation message dvcc in
+        ap (λ (l : List ℕ). decoding (erasedArguments l) l dvcc) written ∙ own-bits (erasedArguments (bytes (tailBiting w))) (passed-erased w word-length) h
 
 -- ---- document 01: 260 zeros under the colour code 0 are a zero message
 zeros : bytes (tailBiting (wordOf false 0 0)) ≡ replicate 260 0
 unfolding tailBiting coded tapped madeOf checksumOf divided added packed unpacked
 zeros = refl
 
-pub zero-message : {answer : Answer Content} → Decoding (decodeArguments (replicate 260 0)) (replicate 260 0) 0 answer
-    → answer ≡ accepted (record { continuation = false; message = 0; corrected = 0; observed = 260 })
-zero-message {answer} d =
-    own-bits false 0 0 (decodeArguments (bytes (tailBiting (wordOf false 0 0)))) (passed-decode (wordOf false 0 0) (word-length false 0 0)) (omega arith)
-    (subst (λ (l : List ℕ). Decoding (decodeArguments l) l 0 answer) (sym zeros) d)
+pub zero-message : decoding (decodeArguments (replicate 260 0)) (replicate 260 0) 0 ≡ accepted (record { continuation = false; message = 0; corrected = 0; observed = 260 })
+zero-message =
+    ap (λ (l : List ℕ). decoding (decodeArguments l) l 0) (sym zeros)
+    ∙ own-bits false 0 0 (decodeArguments (bytes (tailBiting (wordOf false 0 0)))) (passed-decode (wordOf false 0 0) (word-length false 0 0)) (omega arith)

@@ -6,13 +6,12 @@ use flat_coding::calls::Written;
 use flat_coding::calls::flat_wrote;
 use flat_coding::calls::not_written;
 ghost use mathlib.Core.Path.{_≡_};
-ghost use Rattle.facch.specs.Decoding.{Decoding, decodeAnswer};
-ghost use Rattle.facch.specs.Decoding.{decodeArguments, erasedArguments};
+ghost use Rattle.facch.specs.Decoding.{decodeAnswer, decodeArguments, decoding, erasedArguments};
 ghost use Rattle.facch_interleaver.specs.Wire.{Deinterleaving, Interleaving, Observing};
 ghost use Rattle.facch.specs.Words.{Encoding};
 ghost use Rattle.facch_interleaver.specs.declared.WordHalf.the-variants.{End, Start};
 ghost use Rattle.flat_coding.specs.Calls.{FlatWrote};
-ghost use Rattle.flat_facch.specs.Words.{FlatDecoded, flatContent, noWord};
+ghost use Rattle.flat_facch.specs.Words.{flatContent, noWord};
 
 pub fn encode(continuation: bool, message: u64, dvcc: u8, coded: &mut [u8]) -> Written
     ensures { λ r. ⌜ FlatWrote (Encoding continuation message dvcc (now (coded .entry)) (now (coded .exit))) r ⌝ }
@@ -94,13 +93,13 @@ fn flat_decoded(answer: Decoded) -> Word
 }
 
 pub fn decode(coded: &[u8], dvcc: u8) -> Word
-    ensures { λ r. ⌜ FlatDecoded (Decoding (decodeArguments (now (coded .entry))) (now (coded .entry)) dvcc) r ⌝ }
+    ensures { λ r. ⌜ r ≡ flatContent (decoding (decodeArguments (now (coded .entry))) (now (coded .entry)) dvcc) ⌝ }
 {
     flat_decoded(facch::decode(coded, dvcc))
 }
 
 pub fn decode_erased(coded: &[u8], dvcc: u8) -> Word
-    ensures { λ r. ⌜ FlatDecoded (Decoding (erasedArguments (now (coded .entry))) (now (coded .entry)) dvcc) r ⌝ }
+    ensures { λ r. ⌜ r ≡ flatContent (decoding (erasedArguments (now (coded .entry))) (now (coded .entry)) dvcc) ⌝ }
 {
     flat_decoded(facch::decode_erased(coded, dvcc))
 }

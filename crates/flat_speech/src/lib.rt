@@ -12,7 +12,7 @@ ghost use Rattle.acelp_interleaver.specs.declared.Interleaving.the-variants.{On
 ghost use Rattle.flat_coding.specs.Calls.{FlatWrote};
 ghost use Rattle.speech.specs.Calls as vselp_calls;
 ghost use Rattle.speech_interleaver.specs.Wire as vselp_wire;
-ghost use Rattle.flat_speech.specs.Frames.{FlatFrame, acelpFrame, isValid, noFrame, vselpFrame};
+ghost use Rattle.flat_speech.specs.Frames.{AcelpExit, VselpExit, acelpFrame, isValid, noFrame, vselpFrame};
 
 // valid and corrected are those of an accepted frame; expected and actual those of a refusal for length.
 #[repr(C)]
@@ -86,7 +86,7 @@ pub fn vselp_encode(class_one: &[u8], class_two: &[u8], frame: &mut [u8]) -> Wri
 }
 
 pub fn vselp_decode_candidate(frame: &[u8], class_one: &mut [u8], class_two: &mut [u8]) -> Frame
-    ensures { λ r. ⌜ FlatFrame vselpFrame (vselp_calls.Decoding (now (frame .entry)) (now («class_one» .entry)) (now («class_two» .entry)) (now («class_one» .exit)) (now («class_two» .exit))) r ⌝ }
+    ensures { λ r. ⌜ VselpExit (vselp_calls.decodeCall (now (frame .entry)) (now («class_one» .entry)) (now («class_two» .entry))) (now («class_one» .exit)) (now («class_two» .exit)) r ⌝ }
 {
     flat_vselp(speech::decode_candidate(frame, class_one, class_two))
 }
@@ -110,7 +110,7 @@ pub fn acelp_encode(speech: &[u8], frame: &mut [u8]) -> Written
 }
 
 pub fn acelp_decode(frame: &[u8], speech: &mut [u8]) -> Frame
-    ensures { λ r. ⌜ FlatFrame acelpFrame (acelp_calls.Decoding (now (frame .entry)) (now (speech .entry)) (now (speech .exit))) r ⌝ }
+    ensures { λ r. ⌜ AcelpExit (acelp_calls.decodeCall (now (frame .entry)) (now (speech .entry))) (now (speech .exit)) r ⌝ }
 {
     flat_acelp(acelp_cc1::decode(frame, speech))
 }

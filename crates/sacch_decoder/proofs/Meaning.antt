@@ -1,22 +1,21 @@
 -- What a decoding means in the terms of trellis/specs/Search.antt: Ambiguous exactly where two distinct words are nearest; else the nearest word decides.
 -- Assumes nothing.
-use mathlib.Core.Path.{_≡_, refl, sym, ap, _∙_}
+use mathlib.Core.Path.{_≡_, refl, sym, _∙_}
 use mathlib.Core.Bool.{Bool, true, false, cond}
-use mathlib.Core.List.{List, [], _∷_, reverse}
-use Prim.Native.Nat.{ℕ, _≤_}
+use mathlib.Core.List.{List, reverse}
+use Prim.Native.Nat.{ℕ}
 use native.Mathlib.Omega.{arith}
-use lib.Dec.{eqb}
-use lib.ListN.{length, getD}
-use borrow.Author.Tests.{eqb-false, ne-eqb}
+use lib.ListN.{getD}
 use Rattle.bits.specs.Refusals.{Answer, accepted, refused}
 use Rattle.bits.specs.declared.Refusal.{Refusal}
 use Rattle.bits.specs.declared.Refusal.the-variants as refusal
 use Rattle.trellis.specs.Search.{Nearest, Ambiguous}
 use Rattle.trellis.specs.Words.{OfLength}
 use Rattle.viterbi.specs.Hard.{freeWeight}
-use Rattle.trellis.specs.Nearest.{nearestWords}
-use Rattle.trellis.proofs.Members.{alone, shared, shared-back, some-nearest, at-least-one}
-use Rattle.sacch_decoder.specs.Decoding.{wordValid, contentOf, finished, nearestTo, decodeOf}
+use Rattle.trellis.proofs.AllWords.{all-lists}
+use Rattle.trellis.proofs.Members.{some-nearest}
+use Rattle.trellis.proofs.Decided.{Decided, nearest-decide, decided-alone, decided-shared, only-shared}
+use Rattle.sacch_decoder.specs.Decoding.{wordValid, contentOf, finished, decodeOf}
 use Rattle.sacch_decoder.specs.declared.SacchWord.{SacchWord}
 
 -- ---- one word
@@ -57,40 +56,29 @@ module _ (w : List Bool) (corrected dvcc : ℕ) where
 
 -- ---- the received bits
 module _ (received : List Bool) (dvcc : ℕ) where
-  -- by the list of the nearest words
-  pub decode-one : {w : List Bool} → nearestWords 66 (freeWeight received) ≡ w ∷ [] → decodeOf received dvcc ≡ finished (reverse w) (freeWeight received w) dvcc
-  unfolding decodeOf nearestTo
-  decode-one =
-      ap (λ (ws : List (List Bool)). cond (eqb (length ws) 1) (finished (reverse (getD ws 0 [])) (freeWeight received (getD ws 0 [])) dvcc) (refused refusal.Ambiguous))
+  -- what a word alone decides, with its disagreements
+  abbrev by-word : List Bool → ℕ → Answer SacchWord
+  by-word w corrected = finished (reverse w) corrected dvcc
 
-  pub decode-more : (length (nearestWords 66 (freeWeight received)) ≡ 1 → ⊥) → decodeOf received dvcc ≡ refused refusal.Ambiguous
-  unfolding decodeOf nearestTo
-  decode-more n = rw (ne-eqb (length (nearestWords 66 (freeWeight received))) 1 n)
+  pub sacch-decided : Decided (OfLength 66) (freeWeight received) by-word (refused refusal.Ambiguous) (decodeOf received dvcc)
+  unfolding decodeOf
+  sacch-decided = nearest-decide (all-lists 66) (freeWeight received) by-word (refused refusal.Ambiguous)
 
   pub ambiguous : Ambiguous (OfLength 66) (freeWeight received) → decodeOf received dvcc ≡ refused refusal.Ambiguous
-  ambiguous a = decode-more (λ e. let h : 2 ≤ length (nearestWords 66 (freeWeight received)) = shared 66 (freeWeight received) a in omega arith)
+  ambiguous = decided-shared sacch-decided
 
   pub only-ambiguous : decodeOf received dvcc ≡ refused refusal.Ambiguous → Ambiguous (OfLength 66) (freeWeight received)
-  unfolding decodeOf nearestTo
-  only-ambiguous = by (eqb (length (nearestWords 66 (freeWeight received))) 1) refl
-    where
-      by : (single : Bool) → eqb (length (nearestWords 66 (freeWeight received))) 1 ≡ single
-          → cond single (finished (reverse (getD (nearestWords 66 (freeWeight received)) 0 [])) (freeWeight received (getD (nearestWords 66 (freeWeight received)) 0 [])) dvcc) (refused refusal.Ambiguous)
-          ≡ refused refusal.Ambiguous → Ambiguous (OfLength 66) (freeWeight received)
-      by true s e = absurd (finished-clear _ _ _ e)
-      by false s e =
-          let n : length (nearestWords 66 (freeWeight received)) ≡ 1 → ⊥ = eqb-false (length (nearestWords 66 (freeWeight received))) 1 s in
-          shared-back 66 (freeWeight received) (omega (arith, at-least-one 66 (freeWeight received)))
+  only-ambiguous = only-shared sacch-decided (λ x. x) (λ w n. finished-clear (reverse w) n dvcc)
 
   -- the nearest word, where it is alone, decides
   pub settled : {w : List Bool} → Nearest (OfLength 66) (freeWeight received) w → (Ambiguous (OfLength 66) (freeWeight received) → ⊥)
       → decodeOf received dvcc ≡ finished (reverse w) (freeWeight received w) dvcc
-  settled n none = decode-one (alone 66 (freeWeight received) n none)
+  settled = decided-alone sacch-decided
 
   -- and there is one
   pub one-settled : (Ambiguous (OfLength 66) (freeWeight received) → ⊥)
       → (w : List Bool) × Nearest (OfLength 66) (freeWeight received) w × (decodeOf received dvcc ≡ finished (reverse w) (freeWeight received w) dvcc)
-  one-settled none = let r = some-nearest 66 (freeWeight received) in (r .0, r .1, settled (r .1) none)
+  one-settled none = let r = some-nearest (all-lists 66) (freeWeight received) in (r .0, r .1, settled (r .1) none)
 
   -- an accepted word: one word alone is nearest, its second bit is zero and its checksum is right
   pub record Accepted (x : SacchWord) : Type 0 where

@@ -1,6 +1,6 @@
 -- The ways out of a decoding. Assumes nothing.
-use mathlib.Core.Path.{_≡_, refl, sym, ap, ap₂, _∙_}
-use mathlib.Core.Bool.{Bool, true, false, cond}
+use mathlib.Core.Path.{_≡_, sym, ap, _∙_}
+use mathlib.Core.Bool.{Bool, true, cond}
 use mathlib.Core.List.{List, reverse}
 use Prim.Native.Nat.{ℕ}
 use lib.Dec.{eqb}
@@ -19,10 +19,10 @@ use Rattle.trellis.specs.declared.Outcome.{Outcome}
 use Rattle.viterbi.specs.Hard.{freeWeight}
 use Rattle.words.specs.Words.{messageIn}
 use Rattle.words.proofs.Parts.{flag}
-use Rattle.trellis.proofs.Members.{found-alone, found-shared}
+use Rattle.trellis.proofs.Decided.{found-decides}
 use Rattle.sacch_decoder.specs.Decoding.{wordValid, contentOf, finished, decodeOf, decodeArguments, decoding}
 use Rattle.sacch_decoder.specs.declared.SacchWord.{SacchWord}
-use Rattle.sacch_decoder.proofs.Meaning.{decode-one, decode-more}
+use Rattle.sacch_decoder.proofs.Meaning.{sacch-decided}
 
 module _ (word : List ℕ) (binary : allBinary word ≡ true) where
   -- ---- `content`
@@ -52,14 +52,10 @@ module _ (coded : List ℕ) {word : List ℕ} {r : Outcome} (f : Found (OfLength
     ap allBinary (f .written) ∙ binary-bytes (reverse (f .word)),
   )
 
-  pub found-decides : (dvcc : ℕ) → cond (r .tie) (refused refusal.Ambiguous) (finished (bits word) (r .metric) dvcc) ≡ decodeOf (bits coded) dvcc
-  found-decides dvcc = by (r .tie) refl
-    where
-      by : (tie : Bool) → r .tie ≡ tie → cond tie (refused refusal.Ambiguous) (finished (bits word) (r .metric) dvcc) ≡ decodeOf (bits coded) dvcc
-      by true t = sym (decode-more (bits coded) dvcc (found-shared f t))
-      by false t =
-          ap₂ (λ (w : List Bool) (n : ℕ). finished w n dvcc) (ap bits (f .written) ∙ bits-bytes (reverse (f .word))) (f .metric)
-          ∙ sym (decode-one (bits coded) dvcc (found-alone f t))
+  pub word-decides : (dvcc : ℕ) → cond (r .tie) (refused refusal.Ambiguous) (finished (bits word) (r .metric) dvcc) ≡ decodeOf (bits coded) dvcc
+  word-decides dvcc =
+      ap (λ (w : List Bool). cond (r .tie) (refused refusal.Ambiguous) (finished w (r .metric) dvcc)) (ap bits (f .written) ∙ bits-bytes (reverse (f .word)))
+      ∙ found-decides (sacch-decided (bits coded) dvcc) (r .tie) (f .nearest) (f .metric) (f .tied) (f .alone)
 
 -- ---- `decode`
 module _ (coded : List ℕ) (dvcc : ℕ) {l : Arguments} (told : l ≡ decodeArguments coded) where

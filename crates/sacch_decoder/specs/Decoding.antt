@@ -1,9 +1,8 @@
 -- Decoding of a word (IS-54-B 2.7.3.1.2): the nearest of all words of 66 bits, from whatever memory the encoder was in. Bits oldest first.
 use mathlib.Core.Bool.{Bool, false, cond}
-use mathlib.Core.List.{List, [], reverse}
+use mathlib.Core.List.{List, reverse}
 use Prim.Native.Nat.{ℕ}
-use lib.Dec.{eqb}
-use lib.ListN.{length, getD, take}
+use lib.ListN.{getD, take}
 use Rattle.bits.specs.Bits.{bits}
 use Rattle.bits.specs.Numbers.{packed}
 use Rattle.bits.specs.Refusals.{Answer, accepted, refused}
@@ -15,7 +14,7 @@ use Rattle.checksums.specs.Checksums.{crcValid}
 use Rattle.checksums.specs.declared.CrcMode.the-variants.{Addressed}
 use Rattle.words.specs.Words.{messageIn}
 use Rattle.viterbi.specs.Hard.{freeWeight}
-use Rattle.trellis.specs.Nearest.{nearestWords}
+use Rattle.trellis.specs.Nearest.{allWords, decided}
 use Rattle.sacch_decoder.specs.declared.SacchWord.{SacchWord}
 use Rattle.sacch_decoder.specs.declared.Decoded.{Decoded}
 use Rattle.sacch_decoder.specs.declared.Decoded.the-variants as decoded
@@ -41,16 +40,11 @@ finished w corrected dvcc =
     cond (getD w 1 false) (refused refusal.Reserved) (cond (wordValid w dvcc) (accepted (contentOf w corrected)) (refused refusal.Crc))
 
 -- ---- the received bits
--- The words of 66 bits, newest first, with the fewest disagreements over the 32 starting memories.
-unfoldable pub nearestTo : List Bool → List (List Bool)
-nearestTo received = nearestWords 66 (freeWeight received)
-
--- One word alone weighs least and is the answer, with its disagreements; where more share the least, Ambiguous.
+-- The word of 66 bits, newest first, that alone has the fewest disagreements over the 32 starting memories decides, with their number; where two or more share
+-- the fewest, Ambiguous.
 unfoldable pub decodeOf : List Bool → ℕ → Answer SacchWord
 decodeOf received dvcc =
-    cond (eqb (length (nearestTo received)) 1)
-    (finished (reverse (getD (nearestTo received) 0 [])) (freeWeight received (getD (nearestTo received) 0 [])) dvcc)
-    (refused refusal.Ambiguous)
+    decided (allWords 66) (freeWeight received) (λ (w : List Bool) (corrected : ℕ). finished (reverse w) corrected dvcc) (refused refusal.Ambiguous)
 
 -- ---- the call: the length, then the symbols
 abbrev pub decodeArguments : List ℕ → Arguments

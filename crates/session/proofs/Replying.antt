@@ -1,21 +1,19 @@
 -- The reply to one line. Assumes nothing.
-use mathlib.Core.Path.{_≡_, refl, sym, ap, subst, _∙_}
-use mathlib.Core.Bool.{Bool, true, false, cond}
+use mathlib.Core.Path.{_≡_, refl, sym, ap, _∙_}
+use mathlib.Core.Bool.{Bool, true, false}
 use mathlib.Core.List.{List, [], _∷_}
 use Prim.Native.Nat.{ℕ, _<_}
 use native.Mathlib.Decide.{decLt}
 use native.Mathlib.Omega.{arith}
 use lib.ListN.{length, take, drop}
 use lib.Seq.{take-all}
+use Rattle.bits.specs.declared.arguments.Arguments.{Arguments}
 use Rattle.bits.specs.declared.arguments.Arguments.the-variants.{Passed}
 use Rattle.bits.specs.Bits.{allBelow}
 use Rattle.bits.proofs.Refusing.{erasable-passed}
 use Rattle.bits.specs.Observed.{allErasable}
-use Rattle.facch.specs.Decoding.{Decoding, decodeAnswer}
-use Rattle.facch.specs.Decoding.{erasedArguments}
+use Rattle.facch.specs.Decoding.{decodeAnswer, decodeOf, decoding, erasedArguments}
 use Rattle.facch.specs.declared.Decoded.{Decoded}
-use Rattle.facch.specs.Answers.{decodeErasedOf}
-use Rattle.facch.proofs.Meaning.{decoding-is}
 use Rattle.lines.specs.Commands.{parsed}
 use Rattle.lines.specs.Masked.{digitBits, masked, observedBits}
 use Rattle.lines.specs.declared.command.Command.{Command}
@@ -37,7 +35,7 @@ field-replied r dvcc field p e f =
     ap (λ (a : Reply). record { receiver = p .receiver; dvcc = dvcc; reply = a }) f
     ∙ ap (λ (m : Moved). record { receiver = m .receiver; dvcc = dvcc; reply = sacchReply (m .answer) }) e
 
-pub word-replied : (r : SacchReceiver) (dvcc : ℕ) (l : List ℕ) {a : Reply} → a ≡ facchReply (decodeErasedOf (observedBits l) dvcc)
+pub word-replied : (r : SacchReceiver) (dvcc : ℕ) (l : List ℕ) {a : Reply} → a ≡ facchReply (decodeOf (observedBits l) dvcc)
     → record { receiver = r; dvcc = dvcc; reply = a } ≡ commandReplied r l (command.Facch dvcc)
 unfolding commandReplied
 word-replied r dvcc l e = ap (λ (a : Reply). record { receiver = r; dvcc = dvcc; reply = a }) e
@@ -67,9 +65,9 @@ observed-passed l e =
 
 -- what `decode_erased` answers to them
 pub facch-replied : (l : List ℕ) (dvcc : ℕ) {bits : List ℕ} (d : Decoded) {a : Reply} → length l ≡ 136 → bits ≡ observedBits l
-    → Decoding (erasedArguments bits) bits dvcc (decodeAnswer d) → a ≡ facchReply (decodeAnswer d) → a ≡ facchReply (decodeErasedOf (observedBits l) dvcc)
+    → decodeAnswer d ≡ decoding (erasedArguments bits) bits dvcc → a ≡ facchReply (decodeAnswer d) → a ≡ facchReply (decodeOf (observedBits l) dvcc)
 facch-replied l dvcc d long e p f =
-    f ∙ ap facchReply (decoding-is (observedBits l) dvcc (observed-passed l long) (subst (λ (bits : List ℕ). Decoding (erasedArguments bits) bits dvcc (decodeAnswer d)) e p))
+    f ∙ ap facchReply (p ∙ ap (λ (bits : List ℕ). decoding (erasedArguments bits) bits dvcc) e ∙ ap (λ (x : Arguments). decoding x (observedBits l) dvcc) (observed-passed l long))
 
 -- ---- no reply depends on more than 137 characters
 pub replied-cut : (r : SacchReceiver) (l : List ℕ) → replyTo r (take 137 l) ≡ replyTo r l

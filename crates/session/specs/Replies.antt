@@ -1,11 +1,10 @@
 -- What a line is answered, and the receiver after it.
--- What it asks for is in lines/specs/Commands.antt; what the decoders answer, in sacch_receiver/specs and facch/specs/Answers.antt.
+-- What it asks for is in lines/specs/Commands.antt; what the decoders answer, in sacch_receiver/specs and facch/specs/Decoding.antt.
 use mathlib.Core.List.{List}
 use Prim.Native.Nat.{ℕ}
 use Rattle.bits.specs.Refusals.{Answer, accepted, pending, rejected, refused}
-use Rattle.bits.specs.declared.Refusal.the-variants.{Line}
-use Rattle.facch.specs.Decoding.{Content}
-use Rattle.facch.specs.Answers.{decodeErasedOf}
+use Rattle.bits.specs.declared.Refusal.the-variants.{Line, State}
+use Rattle.facch.specs.Decoding.{Content, decodeOf}
 use Rattle.lines.specs.Commands.{parsed}
 use Rattle.lines.specs.Masked.{observedBits}
 use Rattle.lines.specs.declared.command.Command.{Command}
@@ -31,7 +30,7 @@ sacchReplied r dvcc field =
 -- an `F` line: `R n` or `G c m k o`; its decoder knows no Pending and no Rejected
 unfoldable pub facchReply : Answer Content → Reply
 facchReply (accepted x) = reply.FacchWord (x .continuation) (x .message) (x .corrected) (x .observed)
-facchReply pending = reply.Nothing
+facchReply pending = reply.Refused State
 facchReply (rejected why) = reply.Refused why
 facchReply (refused why) = reply.Refused why
 
@@ -40,7 +39,7 @@ unfoldable pub commandReplied : SacchReceiver → List ℕ → Command → Repli
 commandReplied r l command.Blank = record { receiver = r; dvcc = 0; reply = reply.Nothing }
 commandReplied r l (command.Sacch dvcc field) = sacchReplied r dvcc field
 commandReplied r l command.Discontinuity = record { receiver = freshReceiver; dvcc = 0; reply = reply.Discontinuous }
-commandReplied r l (command.Facch dvcc) = record { receiver = r; dvcc = dvcc; reply = facchReply (decodeErasedOf (observedBits l) dvcc) }
+commandReplied r l (command.Facch dvcc) = record { receiver = r; dvcc = dvcc; reply = facchReply (decodeOf (observedBits l) dvcc) }
 commandReplied r l command.Unknown = record { receiver = r; dvcc = 0; reply = reply.Refused Line }
 
 unfoldable pub replyTo : SacchReceiver → List ℕ → Replied

@@ -10,8 +10,7 @@ use sacch::ReceiveOutcome;
 use sacch::SacchReceiver;
 ghost use mathlib.Core.Path.{_≡_};
 ghost use lib.ListN.{length};
-ghost use Rattle.facch.specs.Decoding.{decodeAnswer};
-ghost use Rattle.facch.specs.Answers.{decodeErasedOf};
+ghost use Rattle.facch.specs.Decoding.{decodeAnswer, decodeOf};
 ghost use Rattle.lines.specs.Masked.{observedBits};
 ghost use Rattle.sacch_receiver.specs.Receiver.{outcomeAnswer};
 ghost use Rattle.session.specs.Replies.{facchReply, replyTo, sacchReplied, sacchReply};
@@ -77,7 +76,7 @@ fn reply_to_field(receiver: SacchReceiver, dvcc: u8, field: u16) -> Replied
 // An `F` line.
 fn reply_to_word(line: &[u8], dvcc: u8) -> Reply
     requires { ⌜ length (now line) ≡ 136 ⌝ }
-    ensures { λ r. ⌜ r ≡ facchReply (decodeErasedOf (observedBits (now (line .entry))) dvcc) ⌝ }
+    ensures { λ r. ⌜ r ≡ facchReply (decodeOf (observedBits (now (line .entry))) dvcc) ⌝ }
 {
     let mut bits = [0u8; 260];
     observed_bits(line, &mut bits);

@@ -4,4 +4,5 @@ pub mod InputBits
 pub mod ClassPlaces
 pub mod Statuses
 pub mod Answering
+pub mod Meaning
 pub mod Settling

@@ -1,5 +1,4 @@
 -- What `encode` and `decode_candidate` do.
-use mathlib.Core.Path.{_≡_}
 use mathlib.Core.Bool.{Bool, cond}
 use mathlib.Core.List.{List, reverse}
 use Prim.Native.Nat.{ℕ}
@@ -15,8 +14,7 @@ use Rattle.bits.specs.declared.arguments.Arguments.the-variants.{Passed, Refuse
 use Rattle.bits.specs.declared.Refusal.{Refusal}
 use Rattle.bits.specs.declared.Refusal.the-variants as refusal
 use Rattle.bits.specs.declared.Wrote.{Wrote}
-use Rattle.trellis.specs.Search.{Nearest, Ambiguous}
-use Rattle.trellis.specs.Words.{Terminated}
+use Rattle.trellis.specs.Nearest.{terminatedWords, decided}
 use Rattle.viterbi.specs.Hard.{weight}
 use Rattle.speech.specs.Inputs.{bitsAt, parityPlaces, parityOf, classOneOf}
 use Rattle.speech.specs.Classes.{classTwoOf, protectedOf}
@@ -57,19 +55,38 @@ statusOf inputs = cond (eqb (packed (bitsAt parityPlaces inputs)) (packed (parit
 abbrev pub frameWeight : List ℕ → List Bool → ℕ
 frameWeight frame = weight (protectedOf (bits frame))
 
--- one nearest word alone among all inputs that end in five zeros: its class-one bits, and class two as received
-pub record Settled (frame classOne classTwo : List ℕ) (answer : Answer Told) : Type 0 where
-  pub word : List Bool
-  pub nearest : Nearest (Terminated 89) (frameWeight frame) word
-  pub one : classOne ≡ bytes (classOneOf (reverse word))
-  pub two : classTwo ≡ classTwoOf frame
-  pub told : answer ≡ accepted (record { crc = statusOf (reverse word); corrected = frameWeight frame word })
+-- what a call leaves: its answer, and the bytes of both classes at exit
+pub record Exit : Type 0 where
+  pub answer : Answer Told
+  pub classOne : List ℕ
+  pub classTwo : List ℕ
 
--- refused with nothing written; Ambiguous exactly where two distinct words share the fewest disagreements; or settled
-pub record Decoding (frame classOne₀ classTwo₀ classOne classTwo : List ℕ) (answer : Answer Told) : Type 0 where
-  pub declined : (why : Refusal) → decodeArguments frame (length classOne₀) (length classTwo₀) ≡ Refused why
-      → (answer ≡ refused why) × (classOne ≡ classOne₀) × (classTwo ≡ classTwo₀)
-  pub unclear : decodeArguments frame (length classOne₀) (length classTwo₀) ≡ Passed → Ambiguous (Terminated 89) (frameWeight frame)
-      → (answer ≡ refused refusal.Ambiguous) × (classOne ≡ classOne₀) × (classTwo ≡ classTwo₀)
-  pub settled : decodeArguments frame (length classOne₀) (length classTwo₀) ≡ Passed → (Ambiguous (Terminated 89) (frameWeight frame) → ⊥)
-      → Settled frame classOne classTwo answer
+abbrev pub exitOf : Decoded → List ℕ → List ℕ → Exit
+exitOf r classOne classTwo = record { answer = decodeAnswer r; classOne = classOne; classTwo = classTwo }
+
+-- a refusal leaves the bytes as they were lent
+abbrev pub refusedExit : Refusal → List ℕ → List ℕ → Exit
+refusedExit why classOne classTwo = record { answer = refused why; classOne = classOne; classTwo = classTwo }
+
+-- the class-one bits of inputs that have so many disagreements, and class two as received
+unfoldable pub acceptedExit : List ℕ → List Bool → ℕ → Exit
+acceptedExit frame inputs corrected = record {
+  answer = accepted (record { crc = statusOf inputs; corrected = corrected });
+  classOne = bytes (classOneOf inputs);
+  classTwo = classTwoOf frame;
+}
+
+-- Of the words of 89 inputs that end in five zeros the one that alone has the fewest disagreements is accepted, with their number; where two or more share the
+-- fewest, Ambiguous.
+unfoldable pub decodeOf : List ℕ → List ℕ → List ℕ → Exit
+decodeOf frame classOne classTwo =
+    decided (terminatedWords 89) (frameWeight frame) (λ (w : List Bool) (corrected : ℕ). acceptedExit frame (reverse w) corrected)
+    (refusedExit refusal.Ambiguous classOne classTwo)
+
+abbrev pub decoding : Arguments → List ℕ → List ℕ → List ℕ → Exit
+decoding (Refused why) frame classOne classTwo = refusedExit why classOne classTwo
+decoding Passed frame classOne classTwo = decodeOf frame classOne classTwo
+
+-- the whole call, of a frame and what was lent for both classes
+abbrev pub decodeCall : List ℕ → List ℕ → List ℕ → Exit
+decodeCall frame classOne classTwo = decoding (decodeArguments frame (length classOne) (length classTwo)) frame classOne classTwo

@@ -22,7 +22,7 @@ ghost use Rattle.bits.specs.Refusals.{accepted};
 ghost use Rattle.bits.specs.declared.arguments.Arguments.the-variants.{Passed};
 ghost use Rattle.trellis.specs.Search.{Found};
 ghost use Rattle.trellis.specs.Words.{Terminated};
-ghost use Rattle.speech.specs.Calls.{Decoding, decodeAnswer, frameWeight, decodeArguments, statusOf};
+ghost use Rattle.speech.specs.Calls.{decodeAnswer, decodeArguments, decodeCall, decodeOf, exitOf, frameWeight, statusOf};
 
 fn decode_arguments(frame: &[u8], room_one: usize, room_two: usize) -> Arguments
     ensures { λ r. ⌜ r ≡ decodeArguments (now (frame .entry)) «room_one» «room_two» ⌝ }
@@ -66,7 +66,7 @@ fn accept(inputs: &[u8], corrected: u16) -> Decoded
 // Searches; nothing is written before the word is known to be the only nearest one.
 fn settle(frame: &[u8], class_one: &mut [u8], class_two: &mut [u8]) -> Decoded
     requires { ⌜ decodeArguments (now frame) (length (now «class_one»)) (length (now «class_two»)) ≡ Passed ⌝ }
-    ensures { λ r. ⌜ Decoding (now (frame .entry)) (now («class_one» .entry)) (now («class_two» .entry)) (now («class_one» .exit)) (now («class_two» .exit)) (decodeAnswer r) ⌝ }
+    ensures { λ r. ⌜ exitOf r (now («class_one» .exit)) (now («class_two» .exit)) ≡ decodeOf (now (frame .entry)) (now («class_one» .entry)) (now («class_two» .entry)) ⌝ }
 {
     let mut inputs = [0u8; 89];
     let found = nearest_inputs(frame, &mut inputs);
@@ -80,7 +80,7 @@ fn settle(frame: &[u8], class_one: &mut [u8], class_two: &mut [u8]) -> Decoded
 
 // Writes the speech bits of the word nearest to a frame, where it is the only one, and gives its status and its number of corrected bits.
 pub fn decode_candidate(frame: &[u8], class_one: &mut [u8], class_two: &mut [u8]) -> Decoded
-    ensures { λ r. ⌜ Decoding (now (frame .entry)) (now («class_one» .entry)) (now («class_two» .entry)) (now («class_one» .exit)) (now («class_two» .exit)) (decodeAnswer r) ⌝ }
+    ensures { λ r. ⌜ exitOf r (now («class_one» .exit)) (now («class_two» .exit)) ≡ decodeCall (now (frame .entry)) (now («class_one» .entry)) (now («class_two» .entry)) ⌝ }
 {
     let ready = decode_arguments(frame, class_one.len(), class_two.len());
     if let Arguments::Refused(why) = ready {

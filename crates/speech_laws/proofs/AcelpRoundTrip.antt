@@ -8,8 +8,8 @@ use lib.ListN.{length, getD, take, drop, length-map, length-append, length-drop,
 use lib.Seq.{take-at, drop-at}
 use Rattle.bits.specs.Bits.{bit, bits, bytes, byte, allBinary, disagreements}
 use Rattle.bits.specs.Places.{placeIn}
-use Rattle.bits.specs.Refusals.{Answer, accepted}
-use Rattle.bits.specs.declared.arguments.Arguments.the-variants.{Passed}
+use Rattle.bits.specs.Refusals.{accepted}
+use Rattle.bits.specs.declared.arguments.Arguments.{Arguments}
 use Rattle.bits.specs.declared.Wrote.{Wrote}
 use Rattle.bits.proofs.Binary.{bits-bytes, bytes-bits, binary-bytes}
 use Rattle.bits.proofs.Listed.{length-listed, taken-back}
@@ -19,11 +19,13 @@ use Rattle.coding.specs.Codes.{coded, acelp}
 use Rattle.coding.specs.Registers.{memoryLow}
 use Rattle.trellis.specs.Search.{Nearest, Ambiguous}
 use Rattle.trellis.specs.Words.{Terminated}
+use Rattle.trellis.proofs.Decided.{decided-alone}
 use Rattle.puncturing.specs.Punctured.{sentOf, weight}
 use Rattle.puncturing.proofs.OneWord.{sent-once}
-use Rattle.acelp_cc1.specs.Calls.{Told, Encoding, Decoding, Settled, encodeArguments, decodeArguments, inputsValid}
+use Rattle.acelp_cc1.specs.Calls.{Encoding, frameWeight, acceptedExit, decoding, decodeCall}
 use Rattle.acelp_cc1.specs.Frames.{speechOrder, ordered, unordered, inputsOf, classOneOf, orderedFrame, frameOf}
 use Rattle.acelp_cc1.proofs.Inputs.{inputs-length}
+use Rattle.acelp_cc1.proofs.Meaning.{acelp-decided}
 use Rattle.acelp_cc1.proofs.Framing.{protected-length}
 use Rattle.acelp_cc1.proofs.OwnInputs.{class-one-own, valid-own, own}
 use Rattle.acelp_cc1.proofs.Placing.{speech-place-below, speech-at-place}
@@ -82,33 +84,29 @@ module _ (order : List Bool) (size : length order ≡ 148) where
 
 -- ---- the calls
 -- a frame's own bits
-pub own-bits : (speech : List Bool) (speech₀ speech′ : List ℕ) (answer : Answer Told) → length speech ≡ 148 → length speech₀ ≡ 148
-    → Decoding (bytes (frameOf speech)) speech₀ speech′ answer → (answer ≡ accepted (record { valid = true; corrected = 0 })) × (speech′ ≡ bytes speech)
-unfolding frameOf
-own-bits speech speech₀ speech′ answer size room d =
+pub own-bits : (speech : List Bool) (speech₀ : List ℕ) → length speech ≡ 148 → length speech₀ ≡ 148
+    → decodeCall (bytes (frameOf speech)) speech₀ ≡ record { answer = accepted (record { valid = true; corrected = 0 }); speech = bytes speech }
+unfolding frameOf acceptedExit
+own-bits speech speech₀ size room =
     let order : List Bool = ordered false speech in
     let many : length order ≡ 148 = ordered-length speech in
-    let sent : bits (bytes (orderedFrame order)) ≡ orderedFrame order = bits-bytes (orderedFrame order) in
-    let received : take 208 (bits (bytes (orderedFrame order))) ≡ protected order many = ap (take 208) sent ∙ front order many in
-    let s : Settled (bytes (orderedFrame order)) speech′ answer =
-    d .settled (room-passed 260 (bytes (orderedFrame order)) 148 (length speech₀) (length-map (orderedFrame order) byte ∙ ordered-frame-length order many) room (binary-bytes (orderedFrame order)))
-    (λ a. clear order many (subst (λ (u : List Bool). Ambiguous (Terminated 108) (weight u)) received a)) in
-    let nearest : Nearest (Terminated 108) (weight (protected order many)) (s .word) =
-    subst (λ (u : List Bool). Nearest (Terminated 108) (weight u) (s .word)) received (s .nearest) in
-    let same : s .word ≡ reverse (inputsOf order) = nearest-own order many (s .word) nearest in
-    let inputs : reverse (s .word) ≡ inputsOf order = ap reverse same ∙ reverse-reverse (inputsOf order) in
-    let valid : inputsValid (reverse (s .word)) ≡ true = ap inputsValid inputs ∙ valid-own order many in
-    let corrected : weight (take 208 (bits (bytes (orderedFrame order)))) (s .word) ≡ 0 = ap₂ weight received same ∙ own-weight order many in (
-      s .told ∙ ap₂ (λ (v : Bool) (n : ℕ). accepted (record { valid = v; corrected = n })) valid corrected,
-      s .written ∙ ap₂ (λ (u f : List Bool). bytes (unordered false (classOneOf u ++ drop 208 f))) inputs sent
-          ∙ ap (λ (o : List Bool). bytes (unordered false o)) (again order many) ∙ ap bytes (unordered-ordered speech size),
-    )
+    let frame : List ℕ = bytes (orderedFrame order) in
+    let sent : bits frame ≡ orderedFrame order = bits-bytes (orderedFrame order) in
+    let received : take 208 (bits frame) ≡ protected order many = ap (take 208) sent ∙ front order many in
+    let weighs : frameWeight frame (reverse (inputsOf order)) ≡ 0 = ap (λ (u : List Bool). weight u (reverse (inputsOf order))) received ∙ own-weight order many in
+    let back : bytes (unordered false (classOneOf (inputsOf order) ++ drop 208 (bits frame))) ≡ bytes speech =
+    ap (λ (f : List Bool). bytes (unordered false (classOneOf (inputsOf order) ++ drop 208 f))) sent ∙ ap (λ (o : List Bool). bytes (unordered false o)) (again order many)
+    ∙ ap bytes (unordered-ordered speech size) in
+    ap (λ (l : Arguments). decoding l frame speech₀)
+    (room-passed 260 frame 148 (length speech₀) (length-map (orderedFrame order) byte ∙ ordered-frame-length order many) room (binary-bytes (orderedFrame order)))
+    ∙ decided-alone (acelp-decided frame speech₀) (record { word = own order; least = λ u h. omega (arith, weighs) })
+    (λ a. clear order many (subst (λ (u : List Bool). Ambiguous (Terminated 108) (weight u)) received a))
+    ∙ ap₂ (acceptedExit frame) (reverse-reverse (inputsOf order)) weighs
+    ∙ (λ i. record { answer = accepted (record { valid = valid-own order many i; corrected = 0 }); speech = back i })
 
-pub acelp-round-trip : (speech frame₀ frame speech₀ speech′ : List ℕ) (r : Wrote) (answer : Answer Told)
-    → length speech ≡ 148 → allBinary speech ≡ true → length frame₀ ≡ 260 → length speech₀ ≡ 148
-    → Encoding speech frame₀ frame r → Decoding frame speech₀ speech′ answer
-    → (answer ≡ accepted (record { valid = true; corrected = 0 })) × (speech′ ≡ speech)
-acelp-round-trip speech frame₀ frame speech₀ speech′ r answer size b room room′ e d =
-    let written : frame ≡ bytes (frameOf (bits speech)) = e .done (room-passed 148 speech 260 (length frame₀) size room b) .1 in
-    let back = own-bits (bits speech) speech₀ speech′ answer (length-map speech bit ∙ size) room′ (subst (λ (l : List ℕ). Decoding l speech₀ speech′ answer) written d) in
-    (back .0, back .1 ∙ bytes-bits speech b)
+pub acelp-round-trip : (speech frame₀ frame speech₀ : List ℕ) (r : Wrote) → length speech ≡ 148 → allBinary speech ≡ true → length frame₀ ≡ 260 → length speech₀ ≡ 148
+    → Encoding speech frame₀ frame r → decodeCall frame speech₀ ≡ record { answer = accepted (record { valid = true; corrected = 0 }); speech = speech }
+acelp-round-trip speech frame₀ frame speech₀ r size b room room′ e =
+    ap (λ (l : List ℕ). decodeCall l speech₀) (e .done (room-passed 148 speech 260 (length frame₀) size room b) .1)
+    ∙ own-bits (bits speech) speech₀ (length-map speech bit ∙ size) room′
+    ∙ ap (λ (l : List ℕ). record { answer = accepted (record { valid = true; corrected = 0 }); speech = l }) (bytes-bits speech b)

@@ -13,4 +13,4 @@ pub mod Doubles
 pub mod AllWords
 pub mod Lightest
 pub mod Members
-pub mod OneOutcome
+pub mod Decided

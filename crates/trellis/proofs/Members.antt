@@ -1,17 +1,15 @@
--- The list of the nearest words holds those of trellis/specs/Search.antt, each once: one where the nearest word is alone, more where it is ambiguous.
+-- Of a list of the words of a set those that weigh least are the nearest of trellis/specs/Search.antt, each once: one where the nearest word is alone, more where it is ambiguous.
 -- Assumes nothing.
-use mathlib.Core.Path.{_≡_, refl, sym, ap, subst, _∙_}
-use mathlib.Core.Bool.{Bool, true, false, Bool-discrete, false≢true}
+use mathlib.Core.Path.{_≡_, refl, sym, ap, _∙_}
+use mathlib.Core.Bool.{Bool, Bool-discrete}
 use mathlib.Core.List.{List, [], _∷_, List-discrete, List·Memᴰ·head, List·Memᴰ·tail, List·Memᴰ·not-nil, List·Memᴰ·eq-of-singleton}
 use Prim.Native.Nat.{ℕ, _≤_}
 use native.Mathlib.Omega.{arith}
-use lib.ListN.{length, replicate, length-replicate}
-use Rattle.trellis.specs.Search.{Nearest, Ambiguous, Found}
-use Rattle.trellis.specs.Words.{OfLength}
-use Rattle.trellis.specs.declared.Outcome.{Outcome}
+use lib.ListN.{length}
+use Rattle.trellis.specs.Search.{Nearest, Ambiguous}
 use Rattle.trellis.proofs.Searching.{alone-unique}
-use Rattle.trellis.specs.Nearest.{allWords, nearestWords}
-use Rattle.trellis.proofs.AllWords.{In, Once, all-once, in-all, all-length}
+use Rattle.trellis.specs.Nearest.{lightest}
+use Rattle.trellis.proofs.AllWords.{In, Once, Lists}
 use Rattle.trellis.proofs.Lightest.{Lightest, lightest-is}
 
 -- ---- lists of words
@@ -34,51 +32,47 @@ two [] p q apart = absurd (List·Memᴰ·not-nil p)
 two (x ∷ []) p q apart = absurd (apart (List·Memᴰ·eq-of-singleton p ∙ sym (List·Memᴰ·eq-of-singleton q)))
 two (x ∷ y ∷ ws) p q apart = omega arith
 
--- ---- the nearest words
-module _ (n : ℕ) (weight : List Bool → ℕ) where
-  of-all : Lightest weight (allWords n) (nearestWords n weight)
-  unfolding nearestWords
-  of-all = lightest-is weight (allWords n)
+-- ---- the lightest of a list of words are the nearest of their set
+module _ {Word : List Bool → Type 0} {ws : List (List Bool)} (lists : Lists Word ws) (weight : List Bool → ℕ) where
+  of-all : Lightest weight ws (lightest weight ws)
+  of-all = lightest-is weight ws
 
-  in-length : (w : List Bool) → length w ≡ n → In w (allWords n)
-  in-length w l = subst (λ (k : ℕ). In w (allWords k)) l (in-all w)
+  pub member-nearest : (w : List Bool) → In w (lightest weight ws) → Nearest Word weight w
+  member-nearest w m = record { word = lists .to w (of-all .from w m); least = λ u l. of-all .light w m u (lists .from u l) }
 
-  pub member-nearest : (w : List Bool) → In w (nearestWords n weight) → Nearest (OfLength n) weight w
-  member-nearest w m = record { word = all-length n w (of-all .from w m); least = λ u l. of-all .light w m u (in-length u l) }
+  pub nearest-member : (w : List Bool) → Nearest Word weight w → In w (lightest weight ws)
+  nearest-member w p = of-all .all w (lists .from w (p .word)) (λ u m. p .least u (lists .to u m))
 
-  pub nearest-member : (w : List Bool) → Nearest (OfLength n) weight w → In w (nearestWords n weight)
-  nearest-member w p = of-all .all w (in-length w (p .word)) (λ u m. p .least u (all-length n u m))
-
-  pub nearest-once : Once (nearestWords n weight)
-  nearest-once = of-all .once (all-once n)
+  pub nearest-once : Once (lightest weight ws)
+  nearest-once = of-all .once (lists .once)
 
   -- ---- how many there are: at least one,
-  not-none : nearestWords n weight ≡ [] → ⊥
-  not-none = of-all .some (replicate n false) (in-length (replicate n false) (length-replicate n false))
+  not-none : lightest weight ws ≡ [] → ⊥
+  not-none = of-all .some (lists .some .0) (lists .from (lists .some .0) (lists .some .1))
 
-  pub some-nearest : (w : List Bool) × Nearest (OfLength n) weight w
-  some-nearest = let r = first (nearestWords n weight) not-none in (r .0, member-nearest (r .0) (r .1))
+  pub some-nearest : (w : List Bool) × Nearest Word weight w
+  some-nearest = let r = first (lightest weight ws) not-none in (r .0, member-nearest (r .0) (r .1))
 
-  pub at-least-one : 1 ≤ length (nearestWords n weight)
-  at-least-one = one (nearestWords n weight) (first (nearestWords n weight) not-none .1)
+  pub at-least-one : 1 ≤ length (lightest weight ws)
+  at-least-one = one (lightest weight ws) (first (lightest weight ws) not-none .1)
 
   -- one where it is alone,
-  pub alone : {w : List Bool} → Nearest (OfLength n) weight w → (Ambiguous (OfLength n) weight → ⊥) → nearestWords n weight ≡ w ∷ []
+  pub alone : {w : List Bool} → Nearest Word weight w → (Ambiguous Word weight → ⊥) → lightest weight ws ≡ w ∷ []
   alone {w} p none =
-      only (nearestWords n weight) nearest-once (nearest-member w p)
+      only (lightest weight ws) nearest-once (nearest-member w p)
       (λ u m. alone-unique u w none (member-nearest u m) p (List-discrete Bool-discrete u w))
 
   -- and more where it is not
-  pub shared : Ambiguous (OfLength n) weight → 2 ≤ length (nearestWords n weight)
-  shared a = two (nearestWords n weight) (nearest-member (a .one) (a .one-nearest)) (nearest-member (a .other) (a .other-nearest)) (a .distinct)
+  pub shared : Ambiguous Word weight → 2 ≤ length (lightest weight ws)
+  shared a = two (lightest weight ws) (nearest-member (a .one) (a .one-nearest)) (nearest-member (a .other) (a .other-nearest)) (a .distinct)
 
-  pub shared-back : 2 ≤ length (nearestWords n weight) → Ambiguous (OfLength n) weight
-  shared-back = first-two (nearestWords n weight) nearest-once member-nearest
+  pub shared-back : 2 ≤ length (lightest weight ws) → Ambiguous Word weight
+  shared-back = first-two (lightest weight ws) nearest-once member-nearest
     where
-      first-two : (ws : List (List Bool)) → Once ws → ((w : List Bool) → In w ws → Nearest (OfLength n) weight w) → 2 ≤ length ws → Ambiguous (OfLength n) weight
+      first-two : (us : List (List Bool)) → Once us → ((w : List Bool) → In w us → Nearest Word weight w) → 2 ≤ length us → Ambiguous Word weight
       first-two [] once near h = absurd (omega arith)
       first-two (x ∷ []) once near h = absurd (omega arith)
-      first-two (x ∷ y ∷ ws) once near h =
+      first-two (x ∷ y ∷ us) once near h =
           record {
             one = x;
             other = y;
@@ -86,11 +80,3 @@ module _ (n : ℕ) (weight : List Bool → ℕ) where
             other-nearest = near y (List·Memᴰ·tail (List·Memᴰ·head refl));
             distinct = λ e. once .0 (List·Memᴰ·head e);
           }
-
--- ---- from what a search has found
-module _ {n : ℕ} {weight : List Bool → ℕ} {bits : List ℕ} {r : Outcome} (f : Found (OfLength n) weight bits r) where
-  pub found-alone : r .tie ≡ false → nearestWords n weight ≡ f .word ∷ []
-  found-alone t = alone n weight (f .nearest) (λ a. false≢true (sym t ∙ f .alone a))
-
-  pub found-shared : r .tie ≡ true → length (nearestWords n weight) ≡ 1 → ⊥
-  found-shared t e = let h : 2 ≤ length (nearestWords n weight) = shared n weight (f .tied t) in omega arith

@@ -1,13 +1,18 @@
--- All words of a length, and those of them that weigh least. A word is a list of input bits, newest first.
+-- Lists of words, those of them that weigh least, and what these decide. A word is a list of input bits, newest first.
 use mathlib.Core.Bool.{Bool, true, false, cond}
 use mathlib.Core.List.{List, [], _∷_, _++_, map}
-use Prim.Native.Nat.{ℕ, zero, suc}
-use lib.Dec.{ltb}
+use Prim.Native.Nat.{ℕ, zero, suc, _-_}
+use lib.Dec.{eqb, ltb}
+use lib.ListN.{length, getD, replicate}
 
 -- the words of n bits
 unfoldable pub allWords : ℕ → List (List Bool)
 allWords zero = [] ∷ []
 allWords (suc n) = map (_∷_ false) (allWords n) ++ map (_∷_ true) (allWords n)
+
+-- the words of n bits that end in five zeros
+unfoldable pub terminatedWords : ℕ → List (List Bool)
+terminatedWords n = map (_++_ (replicate 5 false)) (allWords (n - 5))
 
 module _ (weight : List Bool → ℕ) where
   -- A word against words that share a weight: it replaces them where it weighs less, and joins them where it weighs the same.
@@ -20,6 +25,7 @@ module _ (weight : List Bool → ℕ) where
   lightest [] = []
   lightest (w ∷ ws) = against w (lightest ws)
 
--- the words of n bits that weigh least
-unfoldable pub nearestWords : ℕ → (List Bool → ℕ) → List (List Bool)
-nearestWords n weight = lightest weight (allWords n)
+-- What the lightest of some words decide: `one` of the word that alone weighs least, with its weight; `more` where two or more share the least weight.
+unfoldable pub decided : {A : Type 0} → List (List Bool) → (List Bool → ℕ) → (List Bool → ℕ → A) → A → A
+decided words weight one more =
+    cond (eqb (length (lightest weight words)) 1) (one (getD (lightest weight words) 0 []) (weight (getD (lightest weight words) 0 []))) more

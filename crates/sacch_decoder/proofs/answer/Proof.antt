@@ -1,6 +1,6 @@
 -- `sacch_decoder::answer` meets its contract: the word that the search found decides. Assumes nothing.
 use mathlib.Core.Path.{_∙_}
-use Rattle.sacch_decoder.proofs.Settling.{found-word, found-decides}
+use Rattle.sacch_decoder.proofs.Settling.{found-word, word-decides}
 use borrow.Author.Needs.{needs}
 use Rattle.sacch_decoder.proofs.answer.Statement.{statement}
 use Rattle.sacch_decoder.proofs.answer.Tie as tie
@@ -18,7 +18,7 @@ finish-requires : tie.Need-finish-requires
 finish-requires c κs = found-word (c .before .before .before .before .before .args .coded .now) (c .before .before .free .ensures)
 
 returns : tie.Need-returns
-returns c = c .finish .ensures ∙ found-decides (c .before .before .before .before .before .before .args .coded .now) (c .before .before .before .free .ensures) _
+returns c = c .finish .ensures ∙ word-decides (c .before .before .before .before .before .before .args .coded .now) (c .before .before .before .free .ensures) _
 
 pub answer-spec : {M : Type 1} → statement M
 answer-spec =

@@ -4,7 +4,7 @@ use native.Mathlib.Omega.{arith}
 use Rattle.bits.proofs.Binary.{binary-take}
 use Rattle.bits.proofs.LentPart.{part-length}
 use Rattle.acelp_cc1.proofs.Placing.{asks-scatter, speech-size, speech-apart}
-use Rattle.acelp_cc1.proofs.Restoring.{sorted-binary, finished}
+use Rattle.acelp_cc1.proofs.Restoring.{sorted-binary, accepted-end}
 use borrow.Author.Needs.{needs}
 use Rattle.acelp_cc1.proofs.decoding.finish.Statement.{statement}
 use Rattle.acelp_cc1.proofs.decoding.finish.Tie as tie
@@ -59,7 +59,7 @@ returns c =
     let received = check .before .before in
     let sorted = received .before .before in
     let begin = sorted .before .before .before .before .before in
-    finished _ _ (sorted .restore .ensures) (begin .args .frame .now) (begin .args .speech .now) refl (begin .pre .4)
+    accepted-end _ _ (sorted .restore .ensures) (begin .args .frame .now) (begin .args .speech .now) refl (begin .pre .4)
     (received .received-checksum .ensures) (check .checksum7-of-bits .ensures) (places .speech-order .ensures) (put .scatter .ensures) (c .accept .ensures)
 
 pub finish-spec : {M : Type 1} → statement M

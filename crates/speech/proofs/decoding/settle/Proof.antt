@@ -19,7 +19,9 @@ nearest-inputs-requires c κs =
     (passed .0, passed .3, refl)
 
 returns : tie.Need-returns
-returns c = unclear-end (c .before .before .before .before .before .before .before .pre) (c .before .before .nearest-inputs .ensures) (c .if1 .taken)
+returns c =
+    let entry = c .before .before .before .before .before .before .before in
+    unclear-end (entry .args .frame .now) (entry .args .class-one .now) (entry .args .class-two .now) (c .before .before .nearest-inputs .ensures) (c .if1 .taken)
 
 slice-aggregate-copy-range : tie.Need-slice-aggregate-copy-range
 slice-aggregate-copy-range c = search needs
@@ -58,7 +60,7 @@ returns-2 c =
     let at-copy-range = at-take-class-two .before .before .before .before in
     let at-if1 = at-copy-range .before .before .before in
     let at-nearest-inputs = at-if1 .before .before in
-    settled-end (entry .pre) (at-nearest-inputs .nearest-inputs .ensures) (at-if1 .if1 .left) (copied-out (at-nearest-inputs .nearest-inputs .last .1 .0) (entry .args .class-one .now) (passed .1) (at-copy-range .copy-range .ensures)) (at-take-class-two .take-class-two .ensures) (c .accept .ensures)
+    settled-end (entry .args .frame .now) (entry .args .class-one .now) (entry .args .class-two .now) (at-nearest-inputs .nearest-inputs .ensures) (at-if1 .if1 .left) (copied-out (at-nearest-inputs .nearest-inputs .last .1 .0) (entry .args .class-one .now) (passed .1) (at-copy-range .copy-range .ensures)) (at-take-class-two .take-class-two .ensures) (c .accept .ensures)
 
 pub settle-spec : {M : Type 1} → statement M
 settle-spec =
