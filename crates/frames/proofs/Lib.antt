@@ -1,2 +1,3 @@
 -- The laws.
-pub mod Reaching
+pub mod Deciding
+pub mod Turning

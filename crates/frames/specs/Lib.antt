@@ -1,2 +1,3 @@
--- The turns of the program.
-pub mod Pieces
+-- The calls of C (Streams) and the turns of the program (Turns).
+pub mod Streams
+pub mod Turns

@@ -1,6 +1,16 @@
 // Reads lines of channel words from standard input, and writes an answer to each and the totals (document 01, 'The line program `frames`').
-// What it writes for an input is `output` of session/specs/Output.antt.
-use libc::STDERR_FILENO;
+// What it writes for an input is `output` of session/specs/Output.antt; specs/Turns.antt has the run that comes to it.
+mod streams;
+
+use crate::streams::Next;
+use crate::streams::Sent;
+use crate::streams::decide;
+use crate::streams::goes_on;
+use crate::streams::nothing_sent;
+use crate::streams::read_once;
+use crate::streams::tell_failure;
+use crate::streams::tell_left;
+use crate::streams::write_first;
 use libc::STDIN_FILENO;
 use libc::STDOUT_FILENO;
 use session::Session;
@@ -9,14 +19,25 @@ use session::pieces::feed;
 use session::start;
 ghost use mathlib.Core.Path.{_≡_};
 ghost use lib.ListN.{length, replicate};
-ghost use Rattle.frames.specs.Pieces.{Reached, PieceAnswered};
+ghost use Rattle.session.specs.Contracts.{SessionFits};
+ghost use Rattle.frames.specs.Turns.{Answered, Concluded, Listened, Ran};
 
-struct Piece {
+// One read, and the write of its answers.
+struct Turn {
     session: Session,
-    // Whether there may be more to read.
-    goes_on: bool,
-    // Whether the read or the write failed: then nothing more is written.
-    failed: bool,
+    // What the read answered.
+    got: isize,
+    sent: Sent,
+    next: Next,
+}
+
+// All that the program did.
+struct Outcome {
+    last: Turn,
+    totals: Sent,
+    // The messages on standard error.
+    failure: Sent,
+    left: Sent,
 }
 
 fn input_buffer() -> [u8; 16384]
@@ -32,83 +53,83 @@ fn output_buffer() -> [u8; 409600]
     [0; 409600]
 }
 
-// Reads once, and writes what the bytes are answered. With a million lines read no more is wanted.
+// Reads once, and writes what the bytes are answered.
 fn answer_piece(
     session: Session,
     piece: &mut [u8],
     line: &mut [u8],
     counts: &mut [u32],
     out: &mut [u8],
-) -> Piece
-    requires { ⌜ Reached session (now line) (now counts) × (16384 ≡ length (now piece)) × (409600 ≡ length (now out)) ⌝ }
-    ensures { λ r. ⌜ PieceAnswered session (now (piece .exit)) (now (line .entry)) (now (line .exit)) (now (counts .entry)) (now (counts .exit)) (now (out .entry)) (now (out .exit)) (r .session) ⌝ }
-    ensures { λ r. ⌜ Reached (r .session) (now (line .exit)) (now (counts .exit)) × (16384 ≡ length (now (piece .exit))) × (409600 ≡ length (now (out .exit))) ⌝ }
+) -> Turn
+    requires { ⌜ SessionFits session (now line) (now counts) × (16384 ≡ length (now piece)) × (409600 ≡ length (now out)) ⌝ }
+    ensures { λ r. ⌜ Answered session (now (piece .exit)) (now (line .entry)) (now (line .exit)) (now (counts .entry)) (now (counts .exit)) (now (out .entry)) (now (out .exit)) r ⌝ }
+    ensures { λ r. ⌜ (16384 ≡ length (now (piece .exit))) × (409600 ≡ length (now (out .exit))) ⌝ }
 {
-    let got = libc::read(STDIN_FILENO, piece);
+    let got = read_once(STDIN_FILENO, piece);
     let n = io::count(got, piece);
-    if n == 0 {
-        return Piece {
-            session,
-            goes_on: false,
-            failed: got < 0,
-        };
-    }
     let fed = feed(session, &piece[..n], line, counts, out);
-    let next = fed.session;
-    let end = fed.at;
-    let wrote = io::write_all(STDOUT_FILENO, &out[..end]);
-    Piece {
-        session: next,
-        goes_on: bits::both(wrote, 0 < next.left),
-        failed: !wrote,
+    let after = fed.session;
+    let sent = write_first(STDOUT_FILENO, out, fed.at);
+    Turn {
+        session: after,
+        got,
+        sent,
+        next: decide(got, sent.whole, after.left),
     }
 }
 
-// Reads to the end of the input, or until a read or a write fails. Nothing says that an input ends, so the turns are counted.
-fn listen(piece: &mut [u8], line: &mut [u8], counts: &mut [u32], out: &mut [u8]) -> Piece
+// Turns until there is no more to read. Nothing says that an input ends, so they are counted.
+fn listen(piece: &mut [u8], line: &mut [u8], counts: &mut [u32], out: &mut [u8]) -> Turn
     requires { ⌜ (length (now line) ≡ 137) × (now counts ≡ replicate 256 0) × (16384 ≡ length (now piece)) × (409600 ≡ length (now out)) ⌝ }
-    ensures { λ r. ⌜ Reached (r .session) (now (line .exit)) (now (counts .exit)) × (409600 ≡ length (now (out .exit))) ⌝ }
+    ensures { λ r. ⌜ Listened r (now (line .exit)) (now (counts .exit)) × (409600 ≡ length (now (out .exit))) ⌝ }
 {
-    let mut session = start();
+    let mut last = answer_piece(start(), piece, line, counts, out);
     let mut turns = u64::MAX;
     while turns > 0 {
-        turns -= 1;
-        let done = answer_piece(session, piece, line, counts, out);
-        if !done.goes_on {
-            return done;
+        let next = last.next;
+        if !goes_on(next) {
+            return last;
         }
-        let next = done.session;
-        session = next;
+        turns -= 1;
+        let session = last.session;
+        last = answer_piece(session, piece, line, counts, out);
     }
-    Piece {
-        session,
-        goes_on: false,
-        failed: true,
-    }
+    last
 }
 
-// What was written stays, and the missing totals show that it is not all.
-fn tell_failure(failed: bool) {
-    if failed {
-        io::write_all(
-            STDERR_FILENO,
-            b"frames: a read or a write failed; no totals are written\n",
-        );
-    }
-}
-
-fn run(piece: &mut [u8], line: &mut [u8], counts: &mut [u32], out: &mut [u8])
-    requires { ⌜ (length (now line) ≡ 137) × (now counts ≡ replicate 256 0) × (16384 ≡ length (now piece)) × (409600 ≡ length (now out)) ⌝ }
+// A last line and the totals, where the input was answered to its end.
+fn conclude(last: Turn, line: &[u8], counts: &mut [u32], out: &mut [u8]) -> Sent
+    requires { ⌜ SessionFits (last .session) (now line) (now counts) × (409600 ≡ length (now out)) ⌝ }
+    ensures { λ r. ⌜ Concluded (last .next) (last .session) (now (line .entry)) (now (counts .entry)) (now (out .entry)) (now (out .exit)) r ⌝ }
 {
-    let done = listen(piece, line, counts, out);
-    tell_failure(done.failed);
-    if done.failed {
-        return;
+    let next = last.next;
+    match next {
+        Next::Read => nothing_sent(),
+        Next::Finish => {
+            let session = last.session;
+            let end = finish(session, line, counts, out);
+            write_first(STDOUT_FILENO, out, end)
+        }
+        Next::Fail => nothing_sent(),
     }
-    let session = done.session;
-    let end = finish(session, line, counts, out);
-    let wrote = io::write_all(STDOUT_FILENO, &out[..end]);
-    tell_failure(!wrote);
+}
+
+fn run(piece: &mut [u8], line: &mut [u8], counts: &mut [u32], out: &mut [u8]) -> Outcome
+    requires { ⌜ (length (now line) ≡ 137) × (now counts ≡ replicate 256 0) × (16384 ≡ length (now piece)) × (409600 ≡ length (now out)) ⌝ }
+    ensures { λ r. ⌜ Ran (now (out .exit)) r ⌝ }
+{
+    let last = listen(piece, line, counts, out);
+    let totals = conclude(last, line, counts, out);
+    let next = last.next;
+    let session = last.session;
+    let failure = tell_failure(next, totals.whole);
+    let left = tell_left(session.left);
+    Outcome {
+        last,
+        totals,
+        failure,
+        left,
+    }
 }
 
 fn main() {

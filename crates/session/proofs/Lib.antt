@@ -8,3 +8,4 @@ pub mod Ended
 pub mod Ending
 pub mod Gathered
 pub mod Stepped
+pub mod Transcript

@@ -150,7 +150,7 @@ unfolding linesFrom seen byteSeen
 whole-state [] k s part = last-state k s part
 whole-state (b ∷ rest) k s part = state-byte (eqb b 10) rest (whole-state rest) k s part b
 
--- ---- THE LAW OF THE PROGRAM: what `feed` writes of an input, however it is cut into pieces, and `finish` after it, is the output of the definition
+-- ---- byte by byte, and the end after them, it is the output of the definition
 pub whole : (input : List ℕ) → output input ≡ bytesSaid atStart input ++ endText (seen atStart input)
 unfolding output linesOf endText atStart
 whole input =

@@ -1,16 +1,22 @@
--- `frames::run` meets its contract. Assumes nothing.
-use mathlib.Core.Path.{sym}
-use Prim.Native.Nat.{_-_}
-use lib.Seq.{length-take-le}
+-- `frames::run` meets its contract: by the law of the transcript all that it wrote is the output of all that it read. Assumes nothing.
 use borrow.Author.Needs.{needs}
+use Rattle.frames.proofs.Turning.{all-written, turned-fits, turns-fed}
 use Rattle.frames.proofs.run.Statement.{statement}
 use Rattle.frames.proofs.run.Tie as tie
 
 listen-requires : tie.Need-listen-requires
 listen-requires c κs = search needs
 
+conclude-requires : tie.Need-conclude-requires
+conclude-requires c κs =
+    let heard = c .before .before .before .before .before .before .before .before .before .before .before .listen .ensures in
+    (turned-fits (heard .0 .turned), heard .1)
+
 tell-failure-requires : tie.Need-tell-failure-requires
 tell-failure-requires c κs = search needs
+
+tell-left-requires : tie.Need-tell-left-requires
+tell-left-requires c κs = search needs
 
 same-length : tie.Need-same-length
 same-length c = search needs
@@ -25,56 +31,28 @@ same-length-4 : tie.Need-same-length-4
 same-length-4 c = search needs
 
 returns : tie.Need-returns
-returns c = search needs
-
-finish-requires : tie.Need-finish-requires
-finish-requires c κs = search needs
-
-slice-reshare-prefix-write-all : tie.Need-slice-reshare-prefix-write-all
-slice-reshare-prefix-write-all c = search needs
-
-slice-aggregate-write-all : tie.Need-slice-aggregate-write-all
-slice-aggregate-write-all c = sym (length-take-le _ _ (c .before .before .before .before .before .finish .ensures .1))
-
-write-all-requires : tie.Need-write-all-requires
-write-all-requires c κs = search needs
-
-tell-failure-requires-2 : tie.Need-tell-failure-requires-2
-tell-failure-requires-2 c κs = search needs
-
-same-length-5 : tie.Need-same-length-5
-same-length-5 c = search needs
-
-same-length-6 : tie.Need-same-length-6
-same-length-6 c = search needs
-
-same-length-7 : tie.Need-same-length-7
-same-length-7 c = search needs
-
-same-length-8 : tie.Need-same-length-8
-same-length-8 c = search needs
-
-returns-2 : tie.Need-returns-2
-returns-2 c = search needs
+returns c =
+    let to-conclude = c .before .before .before .before .before .before .before in
+    let heard = to-conclude .before .before .before .before .before .before .before .before .before .before .before .before .listen .ensures .0 in
+    record {
+      line = _;
+      counts = _;
+      listened = heard;
+      totals = all-written _ _ _ (turns-fed (heard .turned .turns)) _ (to-conclude .conclude .ensures);
+      failure = c .before .tell-failure .ensures;
+      left = c .tell-left .ensures;
+    }
 
 pub run-spec : {M : Type 1} → statement M
 run-spec =
     tie.close
     (tie.spec
     listen-requires
+    conclude-requires
     tell-failure-requires
+    tell-left-requires
     same-length
     same-length-2
     same-length-3
     same-length-4
-    returns
-    finish-requires
-    slice-reshare-prefix-write-all
-    slice-aggregate-write-all
-    write-all-requires
-    tell-failure-requires-2
-    same-length-5
-    same-length-6
-    same-length-7
-    same-length-8
-    returns-2)
+    returns)
