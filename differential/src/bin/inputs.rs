@@ -28,6 +28,7 @@ fn main() {
     write("damaged", lines(damaged_stream()));
     write("halves", lines(halves()));
     write("between", between());
+    write("three_reads", lines(three_reads()));
 }
 
 fn text_of(lines: Vec<Vec<u8>>) -> Vec<u8> {
@@ -211,4 +212,24 @@ fn between() -> Vec<u8> {
         }
     }
     text_of(out)
+}
+
+/// Some 40 KB, so that the program reads more than twice: three stops with wrong bits in a tenth of
+/// the fields, an `F` line after every 30th.
+fn three_reads() -> Vec<String> {
+    let mut p = Prng(10);
+    let mut out = vec![];
+    for dvcc in [DVCC, 0x01, 0xff] {
+        for (at, field) in sent(&mut p, 90, dvcc).into_iter().enumerate() {
+            let wrong = if p.below(10) == 0 { 1 + p.below(3) } else { 0 };
+            out.push(sacch(dvcc, damaged(&mut p, field, wrong)));
+            if at % 30 == 29 {
+                let word = any_word(&mut p);
+                let coded = coded_word(&mut p, word, dvcc, 4);
+                out.push(facch(dvcc, &coded, &[true; CODED]));
+            }
+        }
+        out.push("D".into());
+    }
+    out
 }
