@@ -11,7 +11,7 @@ use lib.ListN.{length, getD, take, drop, drop-of-length-le}
 use lib.Seq.{drop-cons}
 use borrow.Author.Tests.{ltb-true, lt-ltb, le-ltb}
 use Rattle.bits.proofs.Below.{below-none, below-head, below-tail, below-cons, below-at, below-take, below-drop}
-use Rattle.bits.specs.Bits.{byte, bit, bytes, bits, allBinary, differ}
+use Rattle.bits.specs.Bits.{byte, bit, bytes, bits, allBinary, disagreement}
 
 -- ---- one bit
 pub bit-byte : (b : Bool) → bit (byte b) ≡ b
@@ -87,23 +87,23 @@ bytes-bits [] e = refl
 bytes-bits (x ∷ l) e = ap₂ (λ (y : ℕ) (r : List ℕ). y ∷ r) (byte-bit x (binary-head x l e)) (bytes-bits l (binary-tail x l e))
 
 -- ---- differ
-pub differ-le : (a b : Bool) → differ a b ≤ 1
+pub differ-le : (a b : Bool) → disagreement a b ≤ 1
 differ-le false false = omega arith
 differ-le false true = omega arith
 differ-le true false = omega arith
 differ-le true true = omega arith
 
-pub differ-same : (a : Bool) → differ a a ≡ 0
+pub differ-same : (a : Bool) → disagreement a a ≡ 0
 differ-same false = refl
 differ-same true = refl
 
-pub differ-none : (a b : Bool) → differ a b ≡ 0 → a ≡ b
+pub differ-none : (a b : Bool) → disagreement a b ≡ 0 → a ≡ b
 differ-none false false e = refl
 differ-none false true e = let z : ⊥ = omega arith in absurd z
 differ-none true false e = let z : ⊥ = omega arith in absurd z
 differ-none true true e = refl
 
-pub differ-other : (a b : Bool) → (a ≡ b → ⊥) → differ a b ≡ 1
+pub differ-other : (a b : Bool) → (a ≡ b → ⊥) → disagreement a b ≡ 1
 differ-other false false n = absurd (n refl)
 differ-other false true n = refl
 differ-other true false n = refl

@@ -10,7 +10,7 @@ use lib.Dec.{eqb}
 use lib.ListN.{length, getD, drop, drop-of-length-le}
 use lib.Seq.{drop-cons}
 use borrow.Author.Tests.{eq-eqb, ne-eqb}
-use Rattle.bits.specs.Bits.{allBinary, bit, differ}
+use Rattle.bits.specs.Bits.{allBinary, bit, disagreement}
 use Rattle.bits.specs.Observed.{allErasable, erasedDiffer, observedOne, observedCount}
 use Rattle.bits.proofs.Below.{below-all}
 use Rattle.bits.proofs.Binary.{binary-at, differ-le}
@@ -23,7 +23,7 @@ pub erased-none : (sent : Bool) (received : ℕ) → received ≡ 2 → 0 ≡ er
 unfolding erasedDiffer
 erased-none sent received e = rw (eq-eqb received 2 e)
 
-pub erased-seen : (sent : Bool) (received x : ℕ) → (received ≡ 2 → ⊥) → x ≡ differ sent (bit received) → x ≡ erasedDiffer sent received
+pub erased-seen : (sent : Bool) (received x : ℕ) → (received ≡ 2 → ⊥) → x ≡ disagreement sent (bit received) → x ≡ erasedDiffer sent received
 unfolding erasedDiffer
 erased-seen sent received x n e = rw (ne-eqb received 2 n) e
 
@@ -31,7 +31,7 @@ pub erased-le : (sent : Bool) (received : ℕ) → erasedDiffer sent received �
 unfolding erasedDiffer
 erased-le sent received = go (eqb received 2)
   where
-    go : (t : Bool) → cond t 0 (differ sent (bit received)) ≤ 1
+    go : (t : Bool) → cond t 0 (disagreement sent (bit received)) ≤ 1
     go true = omega arith
     go false = differ-le sent (bit received)
 

@@ -41,9 +41,9 @@ tally f (x ∷ xs) [] = 0
 tally f (x ∷ xs) (y ∷ ys) = f x y + tally f xs ys
 
 -- 1 where two bits differ
-abbrev pub differ : Bool → Bool → ℕ
-differ a b = byte (a ⊕ b)
+abbrev pub disagreement : Bool → Bool → ℕ
+disagreement a b = byte (a ⊕ b)
 
 -- the number of places where two lists of bits differ
 abbrev pub disagreements : List Bool → List Bool → ℕ
-disagreements xs ys = tally differ xs ys
+disagreements xs ys = tally disagreement xs ys

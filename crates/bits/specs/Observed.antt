@@ -5,7 +5,7 @@ use Prim.Native.Nat.{ℕ, _+_}
 use lib.Dec.{eqb}
 use lib.ListN.{length}
 use Rattle.bits.specs.Arguments.{firstRefusal, exactOf, symbolUnless}
-use Rattle.bits.specs.Bits.{allBelow, bit, differ}
+use Rattle.bits.specs.Bits.{allBelow, bit, disagreement}
 use Rattle.bits.specs.declared.arguments.Arguments.{Arguments}
 
 -- every byte is 0, 1 or 2
@@ -22,7 +22,7 @@ exactErasable n l = firstRefusal (exactOf n (length l)) (erasableOf l)
 
 -- what a coded bit costs against a received byte: one where the byte is observed and reads otherwise
 unfoldable pub erasedDiffer : Bool → ℕ → ℕ
-erasedDiffer sent received = cond (eqb received 2) 0 (differ sent (bit received))
+erasedDiffer sent received = cond (eqb received 2) 0 (disagreement sent (bit received))
 
 -- 1 where a byte is observed
 unfoldable pub observedOne : ℕ → ℕ

@@ -35,10 +35,8 @@ actualOf Reserved = 0
 actualOf Line = 0
 actualOf State = 0
 
--- What a call answers: a result; Pending; Rejected, where a receiver has moved all the same; or a refusal, where nothing has.
--- Each answer enum of a crate has one function into this.
+-- What a call answers: a result, or a refusal, where nothing was written and no state has moved. Each answer enum of a crate has one function into this. A push
+-- to a receiver has two answers more, Pending and Rejected, and is its own enum (sacch_receiver).
 pub data Answer (A : Type 0) : Type 0 where
   accepted : A → Answer A
-  pending : Answer A
-  rejected : Refusal → Answer A
   refused : Refusal → Answer A

@@ -8,7 +8,7 @@ ghost use mathlib.Core.Path.{_≡_};
 ghost use mathlib.Core.Bool.{true, _&&_};
 ghost use Prim.Native.Nat.{_<_, _≤_};
 ghost use lib.ListN.{length};
-ghost use Rattle.bits.specs.Bits.{allBelow, allBinary, bit, bits, bytes, differ};
+ghost use Rattle.bits.specs.Bits.{allBelow, allBinary, bit, bits, bytes, disagreement};
 ghost use Rattle.bits.specs.Numbers.{packed, unpacked};
 
 // Why a call is refused. `refusals::number` gives document 01's number of each.
@@ -91,7 +91,7 @@ pub fn unpack(value: u64, s: &mut [u8])
 // 1 where two bits differ, 0 where they are equal.
 pub fn differs(a: u8, b: u8) -> u8
     requires { ⌜ (a < 2) × (b < 2) ⌝ }
-    ensures { λ r. ⌜ (r ≡ differ (bit a) (bit b)) × (r ≤ 1) ⌝ }
+    ensures { λ r. ⌜ (r ≡ disagreement (bit a) (bit b)) × (r ≤ 1) ⌝ }
 {
     if a == b { 0 } else { 1 }
 }

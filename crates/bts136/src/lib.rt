@@ -11,7 +11,7 @@ use flat_coding::search::Search;
 ghost use mathlib.Core.Path.{_≡_};
 ghost use lib.ListN.{length};
 ghost use Rattle.bits.specs.Bits.{bits};
-ghost use Rattle.checksums.specs.Checksums.{checksum7Of, checksumOf, ofBits};
+ghost use Rattle.checksums.specs.Checksums.{checksum7Of, checksumOf, answerForBits};
 ghost use Rattle.coding.specs.Codes.{acelp, dcch, facch};
 ghost use Rattle.coding.specs.Registers.{memoryHigh, memoryLow};
 ghost use Rattle.trellis.specs.Search.{Found, FoundFirst};
@@ -51,7 +51,7 @@ pub extern "C" fn bts136_acelp_transition(state: u8, input: u8) -> Step
 // The 16-bit checksum of any number of bits under a colour code. Refused: 2.
 #[no_mangle]
 pub extern "C" fn bts136_checksum(information: &[u8], dvcc: u8, broadcast: bool) -> Checksum
-    ensures { λ r. ⌜ r ≡ flatChecksum (ofBits (now (information .entry)) (checksumOf (bits (now (information .entry))) dvcc (modeOf broadcast))) ⌝ }
+    ensures { λ r. ⌜ r ≡ flatChecksum (answerForBits (now (information .entry)) (checksumOf (bits (now (information .entry))) dvcc (modeOf broadcast))) ⌝ }
 {
     flat_coding::checksum16(information, dvcc, broadcast)
 }
@@ -60,7 +60,7 @@ pub extern "C" fn bts136_checksum(information: &[u8], dvcc: u8, broadcast: bool)
 // The 7-bit checksum of any number of a speech frame's bits. Refused: 2.
 #[no_mangle]
 pub extern "C" fn bts136_checksum7(information: &[u8]) -> Checksum
-    ensures { λ r. ⌜ r ≡ flatChecksum (ofBits (now (information .entry)) (checksum7Of (bits (now (information .entry))))) ⌝ }
+    ensures { λ r. ⌜ r ≡ flatChecksum (answerForBits (now (information .entry)) (checksum7Of (bits (now (information .entry))))) ⌝ }
 {
     flat_coding::checksum7(information)
 }

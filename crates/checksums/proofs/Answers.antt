@@ -13,7 +13,7 @@ use Rattle.bits.proofs.Packed.{packed-below}
 use Rattle.checksums.specs.declared.CrcMode.{CrcMode}
 use Rattle.checksums.specs.declared.CrcMode.the-variants.{Broadcast, Addressed}
 use Rattle.checksums.proofs.Division.{checkBits-length}
-use Rattle.checksums.specs.Checksums.{checkBits, ccitt, complemented, checksumOf, checksum7Of, ofBits}
+use Rattle.checksums.specs.Checksums.{checkBits, ccitt, complemented, checksumOf, checksum7Of, answerForBits}
 use Rattle.checksums.specs.Feedback.{registerAfter}
 use Rattle.checksums.proofs.Shifting.{Remains, run-once, after-append, after-zero}
 use Rattle.checksums.proofs.Fours.{two-fours}
@@ -31,10 +31,10 @@ module _ (l : List ℕ) {a : Bool} (e : a ≡ allBinary l) where
   pub are-bits : not a ≡ false → allBinary l ≡ true
   are-bits h = sym e ∙ not-one a h
 
-  pub of-bits : {x y : ℕ} → not a ≡ false → x ≡ y → accepted x ≡ ofBits l y
+  pub of-bits : {x y : ℕ} → not a ≡ false → x ≡ y → accepted x ≡ answerForBits l y
   of-bits {x} {y} h d = ap accepted d ∙ sym (ap (λ (b : Bool). cond b (accepted y) (refused Symbol)) (are-bits h))
 
-  pub not-bits : (x : ℕ) → not a ≡ true → refused Symbol ≡ ofBits l x
+  pub not-bits : (x : ℕ) → not a ≡ true → refused Symbol ≡ answerForBits l x
   not-bits x h = sym (ap (λ (b : Bool). cond b (accepted x) (refused Symbol)) (sym e ∙ not-zero a h))
 
 -- ---- the values

@@ -64,5 +64,5 @@ answerOf (Value x) = accepted x
 answerOf (Refused r) = refused r
 
 -- a value of bits; Symbol where a byte is none
-abbrev pub ofBits : List ℕ → ℕ → Answer ℕ
-ofBits l x = cond (allBinary l) (accepted x) (refused Symbol)
+abbrev pub answerForBits : List ℕ → ℕ → Answer ℕ
+answerForBits l x = cond (allBinary l) (accepted x) (refused Symbol)

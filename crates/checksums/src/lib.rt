@@ -10,7 +10,7 @@ ghost use Prim.Native.Nat.{ℕ, _+_, _<_, _≤_};
 ghost use lib.ListN.{length};
 ghost use Rattle.bits.specs.Bits.{allBinary, bit, bits};
 ghost use Rattle.bits.specs.Numbers.{packed, unpacked};
-ghost use Rattle.checksums.specs.Checksums.{answerOf, checksum7Of, checksumOf, complemented, crcValid, ofBits};
+ghost use Rattle.checksums.specs.Checksums.{answerOf, checksum7Of, checksumOf, complemented, crcValid, answerForBits};
 ghost use Rattle.checksums.specs.Feedback.{Sized, registerAfter, stepped};
 
 // The weight of the highest bit of a register of 16 bits.
@@ -119,7 +119,7 @@ pub fn checksum_of_bits(information: &[u8], dvcc: u8, mode: CrcMode) -> u16
 
 // The same of bytes of any content; Symbol where one is no bit.
 pub fn checksum(information: &[u8], dvcc: u8, mode: CrcMode) -> Checked
-    ensures { λ r. ⌜ answerOf r ≡ ofBits (now (information .entry)) (checksumOf (bits (now (information .entry))) dvcc mode) ⌝ }
+    ensures { λ r. ⌜ answerOf r ≡ answerForBits (now (information .entry)) (checksumOf (bits (now (information .entry))) dvcc mode) ⌝ }
 {
     if !all_binary(information) {
         return Checked::Refused(Refusal::Symbol);
@@ -148,7 +148,7 @@ pub fn checksum7_of_bits(information: &[u8]) -> u16
 
 // The same of bytes of any content; Symbol where one is no bit.
 pub fn checksum7(information: &[u8]) -> Checked
-    ensures { λ r. ⌜ answerOf r ≡ ofBits (now (information .entry)) (checksum7Of (bits (now (information .entry)))) ⌝ }
+    ensures { λ r. ⌜ answerOf r ≡ answerForBits (now (information .entry)) (checksum7Of (bits (now (information .entry)))) ⌝ }
 {
     if !all_binary(information) {
         return Checked::Refused(Refusal::Symbol);

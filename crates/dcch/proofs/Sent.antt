@@ -9,7 +9,7 @@ use lib.Dec.{T, eqb→eq}
 use lib.ListN.{length, take, drop, replicate, length-reverse, length-drop, length-map, take-append-drop}
 use lib.Seq.{length-take-le, drop-at, drop-drop}
 use lib.Ieee.{Float, nan}
-use Rattle.bits.specs.Bits.{bit, bits, differ, disagreements}
+use Rattle.bits.specs.Bits.{bit, bits, disagreement, disagreements}
 use Rattle.bits.specs.Numbers.{packed, unpacked}
 use Rattle.bits.specs.Refusals.{accepted, refused}
 use Rattle.bits.specs.Arguments.{exactOf}
@@ -80,7 +80,7 @@ module _ (f : BlockFormat) (dvcc : ℕ) (mode : CrcMode) where
     unfolding blockOf
     differ-on-air wires e l =
         ap (λ (u : List Bool). disagreements u (deinterleaved f e wires)) own-cells
-        ∙ tally-on-air differ false e f (cellsOf information dvcc mode) wires (cells-length f information information-length dvcc mode) l
+        ∙ tally-on-air disagreement false e f (cellsOf information dvcc mode) wires (cells-length f information information-length dvcc mode) l
 
   -- ---- an accepted decoding
   -- the answer of a decoding that has finished

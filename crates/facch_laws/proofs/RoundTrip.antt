@@ -7,7 +7,7 @@ use Prim.Native.Nat.{ℕ, _+_, _^_, _≤_, _<_}
 use native.Mathlib.Omega.{arith}
 use lib.ListN.{length, take, drop, length-append, length-drop, length-map, replicate}
 use lib.Seq.{length-take-le}
-use Rattle.bits.specs.Bits.{byte, bytes, differ, tally, disagreements}
+use Rattle.bits.specs.Bits.{byte, bytes, disagreement, tally, disagreements}
 use Rattle.bits.specs.Numbers.{packed, unpacked}
 use Rattle.bits.specs.Refusals.{accepted, refused}
 use Rattle.bits.specs.Arguments.{firstRefusal}
@@ -52,7 +52,7 @@ module _ (received : List ℕ) (w : List Bool) (size : length w ≡ 65) (agrees 
       ∙ ap₂ (λ (b : Bool) (n : ℕ). cond b (accepted (contentOf w n (observedCount received))) (refused refusal.Crc)) right agrees
 
 -- ---- bits that are all observed
-pub erased-byte : (a b : Bool) → erasedDiffer a (byte b) ≡ differ a b
+pub erased-byte : (a b : Bool) → erasedDiffer a (byte b) ≡ disagreement a b
 unfolding erasedDiffer
 erased-byte false false = refl
 erased-byte false true = refl

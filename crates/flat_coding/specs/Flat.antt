@@ -6,7 +6,7 @@ use Prim.Native.Nat.{ℕ, _-_}
 use lib.Dec.{ltb}
 use lib.ListN.{length, take, drop, replicate}
 use Rattle.bits.specs.Bits.{bit}
-use Rattle.bits.specs.Refusals.{Answer, accepted, pending, rejected, refused, numberOf}
+use Rattle.bits.specs.Refusals.{Answer, accepted, refused, numberOf}
 use Rattle.bits.specs.declared.Refusal.{Refusal}
 use Rattle.bits.specs.declared.Refusal.the-variants.{Symbol, State}
 use Rattle.coding.specs.Registers.{Stepped}
@@ -36,11 +36,9 @@ pub record StepAnswer (code : List (List Bool)) (memory : ℕ → List Bool) (st
   pub no-step : (why : Refusal) → stepArguments state input ≡ Refused why → r ≡ noStep why
   pub taken : stepArguments state input ≡ Passed → Taken code memory state input r
 
--- ---- a checksum, which is never pending or rejected
+-- ---- a checksum
 abbrev pub flatChecksum : Answer ℕ → Checksum
 flatChecksum (accepted x) = record { refusal = 0; value = x }
-flatChecksum pending = record { refusal = 0; value = 0 }
-flatChecksum (rejected why) = record { refusal = numberOf why; value = 0 }
 flatChecksum (refused why) = record { refusal = numberOf why; value = 0 }
 
 abbrev pub modeOf : Bool → CrcMode

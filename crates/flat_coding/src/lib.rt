@@ -9,7 +9,7 @@ use checksums::Checked;
 use checksums::CrcMode;
 ghost use mathlib.Core.Path.{_≡_};
 ghost use Rattle.bits.specs.Bits.{bits};
-ghost use Rattle.checksums.specs.Checksums.{answerOf, checksum7Of, checksumOf, ofBits};
+ghost use Rattle.checksums.specs.Checksums.{answerOf, checksum7Of, checksumOf, answerForBits};
 ghost use Rattle.coding.specs.Codes.{acelp, dcch, facch};
 ghost use Rattle.coding.specs.Registers.{memoryHigh, memoryLow};
 ghost use Rattle.flat_coding.specs.Flat.{StepAnswer, flatChecksum, stepArguments, modeOf, noStep};
@@ -125,14 +125,14 @@ fn flat_checksum(checked: Checked) -> Checksum
 
 // The 16-bit checksum of information under a colour code, complemented for broadcast.
 pub fn checksum16(information: &[u8], dvcc: u8, broadcast: bool) -> Checksum
-    ensures { λ r. ⌜ r ≡ flatChecksum (ofBits (now (information .entry)) (checksumOf (bits (now (information .entry))) dvcc (modeOf broadcast))) ⌝ }
+    ensures { λ r. ⌜ r ≡ flatChecksum (answerForBits (now (information .entry)) (checksumOf (bits (now (information .entry))) dvcc (modeOf broadcast))) ⌝ }
 {
     flat_checksum(checksums::checksum(information, dvcc, mode_of(broadcast)))
 }
 
 // The 7-bit checksum of a speech frame's information.
 pub fn checksum7(information: &[u8]) -> Checksum
-    ensures { λ r. ⌜ r ≡ flatChecksum (ofBits (now (information .entry)) (checksum7Of (bits (now (information .entry))))) ⌝ }
+    ensures { λ r. ⌜ r ≡ flatChecksum (answerForBits (now (information .entry)) (checksum7Of (bits (now (information .entry))))) ⌝ }
 {
     flat_checksum(checksums::checksum7(information))
 }

@@ -6,12 +6,13 @@ use flat_coding::calls::Written;
 use flat_coding::calls::flat_wrote;
 use flat_coding::calls::not_written;
 ghost use mathlib.Core.Path.{_≡_};
+ghost use Rattle.bits.specs.Refusals.{refused};
 ghost use Rattle.facch.specs.Decoding.{decodeAnswer, decodeArguments, decoding, erasedArguments};
 ghost use Rattle.facch_interleaver.specs.Wire.{Deinterleaving, Interleaving, Observing};
 ghost use Rattle.facch.specs.Words.{Encoding};
 ghost use Rattle.facch_interleaver.specs.declared.WordHalf.the-variants.{End, Start};
 ghost use Rattle.flat_coding.specs.Calls.{FlatWrote};
-ghost use Rattle.flat_facch.specs.Words.{flatContent, noWord};
+ghost use Rattle.flat_facch.specs.Words.{flatContent};
 
 pub fn encode(continuation: bool, message: u64, dvcc: u8, coded: &mut [u8]) -> Written
     ensures { λ r. ⌜ FlatWrote (Encoding continuation message dvcc (now (coded .entry)) (now (coded .exit))) r ⌝ }
@@ -56,7 +57,7 @@ pub struct Word {
 }
 
 fn no_word(why: Refusal) -> Word
-    ensures { λ r. ⌜ r ≡ noWord why ⌝ }
+    ensures { λ r. ⌜ r ≡ flatContent (refused why) ⌝ }
 {
     let numbers = not_written(why);
     Word {

@@ -3,9 +3,8 @@ use mathlib.Core.Path.{_≡_}
 use mathlib.Core.Bool.{Bool, true, false}
 use mathlib.Core.List.{List}
 use Prim.Native.Nat.{ℕ}
-use Rattle.bits.specs.Refusals.{Answer, accepted, pending, rejected, refused, numberOf, expectedOf, actualOf}
+use Rattle.bits.specs.Refusals.{Answer, accepted, refused, numberOf, expectedOf, actualOf}
 use Rattle.bits.specs.declared.Refusal.{Refusal}
-use Rattle.bits.specs.declared.Refusal.the-variants.{State}
 use Rattle.speech.specs.Calls as vselp
 use Rattle.speech.specs.declared.CrcStatus.{CrcStatus}
 use Rattle.speech.specs.declared.CrcStatus.the-variants.{Valid, Failed}
@@ -19,17 +18,12 @@ abbrev pub isValid : CrcStatus → Bool
 isValid Valid = true
 isValid Failed = false
 
--- neither decoder is ever pending or rejects; nothing pending is accepted here either
 abbrev pub vselpFrame : Answer vselp.Told → Frame
 vselpFrame (accepted t) = record { refusal = 0; expected = 0; actual = 0; valid = isValid (t .crc); corrected = t .corrected }
-vselpFrame pending = noFrame State
-vselpFrame (rejected why) = noFrame why
 vselpFrame (refused why) = noFrame why
 
 abbrev pub acelpFrame : Answer acelp.Told → Frame
 acelpFrame (accepted t) = record { refusal = 0; expected = 0; actual = 0; valid = t .valid; corrected = t .corrected }
-acelpFrame pending = noFrame State
-acelpFrame (rejected why) = noFrame why
 acelpFrame (refused why) = noFrame why
 
 -- what a decoding leaves, its answer made flat

@@ -7,7 +7,7 @@ use native.Mathlib.Omega.{arith}
 use native.Mathlib.Nat.{zero-add}
 use lib.ListN.{length, getD, take, drop, replicate}
 use lib.Seq.{drop-drop}
-use Rattle.bits.specs.Bits.{byte, differ, tally, disagreements}
+use Rattle.bits.specs.Bits.{byte, disagreement, tally, disagreements}
 use Rattle.bits.proofs.Tally.{tally-nil}
 use Rattle.puncturing.specs.Punctured.{sentOf}
 
@@ -97,7 +97,7 @@ spread-at (true ∷ mask) (y ∷ r) (suc j) =
 
 -- ---- a silent place costs nothing
 abbrev pub cost : Bool → Observation → ℕ
-cost b (observed x) = differ b x
+cost b (observed x) = disagreement b x
 cost b unobserved = 0
 
 pub tally-spread : (mask l r : List Bool) → rank mask (length mask) ≤ length r → tally cost l (spread mask r) ≡ disagreements (kept mask l) r
@@ -107,4 +107,4 @@ tally-spread (false ∷ mask) [] r h = refl
 tally-spread (false ∷ mask) (x ∷ l) r h = zero-add _ ∙ tally-spread mask l r (omega arith)
 tally-spread (true ∷ mask) l [] h = absurd (omega arith)
 tally-spread (true ∷ mask) [] (y ∷ r) h = refl
-tally-spread (true ∷ mask) (x ∷ l) (y ∷ r) h = ap (λ (n : ℕ). differ x y + n) (tally-spread mask l r (omega arith))
+tally-spread (true ∷ mask) (x ∷ l) (y ∷ r) h = ap (λ (n : ℕ). disagreement x y + n) (tally-spread mask l r (omega arith))

@@ -9,7 +9,7 @@ use native.Mathlib.Decide.{ℕ-discrete}
 use native.Mathlib.Nat.{zero-add, suc-add, add-assoc}
 use lib.ListN.{length, getD, set, take, length-append, length-reverse}
 use lib.Seq.{length-take-le, take-suc, take-all}
-use Rattle.bits.specs.Bits.{_⊕_, tally, differ, disagreements}
+use Rattle.bits.specs.Bits.{_⊕_, tally, disagreement, disagreements}
 use Rattle.bits.specs.Refusals.{refused}
 use Rattle.bits.specs.declared.Refusal.the-variants as refusal
 use Rattle.bits.proofs.Binary.{differ-same, differ-other}
@@ -36,16 +36,16 @@ flipped-after [] w k = ap (λ (n : ℕ). flipped n w) (zero-add k)
 flipped-after (b ∷ u) w k = ap (λ (n : ℕ). flipped n (b ∷ (u ++ w))) (suc-add (length u) k) ∙ ap (λ (l : List Bool). b ∷ l) (flipped-after u w k)
 
 -- ---- one pair
-opposite : (a b : Bool) → differ a (not b) + differ a b ≡ 1
+opposite : (a b : Bool) → disagreement a (not b) + disagreement a b ≡ 1
 opposite false false = refl
 opposite false true = refl
 opposite true false = refl
 opposite true true = refl
 
 -- differ z y, whatever is added to both
-shifted : (y z p : Bool) → differ (z ⊕ p) (y ⊕ p) ≡ differ z y
+shifted : (y z p : Bool) → disagreement (z ⊕ p) (y ⊕ p) ≡ disagreement z y
 shifted y z p = elim (Bool-discrete z y) [
-  | yes e ↦ ap (λ (b : Bool). differ (z ⊕ p) (b ⊕ p)) (sym e) ∙ differ-same (z ⊕ p) ∙ sym (differ-same z) ∙ ap (differ z) e
+  | yes e ↦ ap (λ (b : Bool). disagreement (z ⊕ p) (b ⊕ p)) (sym e) ∙ differ-same (z ⊕ p) ∙ sym (differ-same z) ∙ ap (disagreement z) e
   | no n ↦ differ-other (z ⊕ p) (y ⊕ p) (λ e. n (cancel z y p e)) ∙ sym (differ-other z y n)
 ]
 
@@ -67,7 +67,7 @@ disagreements-append [] [] u′ w′ l = sym (zero-add (disagreements u′ w′)
 disagreements-append [] (b ∷ w) u′ w′ l = absurd (omega arith)
 disagreements-append (a ∷ u) [] u′ w′ l = absurd (omega arith)
 disagreements-append (a ∷ u) (b ∷ w) u′ w′ l =
-    ap (λ (n : ℕ). differ a b + n) (disagreements-append u w u′ w′ (omega arith)) ∙ sym (add-assoc (differ a b) (disagreements u w) (disagreements u′ w′))
+    ap (λ (n : ℕ). disagreement a b + n) (disagreements-append u w u′ w′ (omega arith)) ∙ sym (add-assoc (disagreement a b) (disagreements u w) (disagreements u′ w′))
 
 coded-last : (m v : List Bool) (x : Bool) → coded dcch m (v ++ (x ∷ [])) ≡ coded dcch m v ++ outputs dcch (x ∷ (reverse v ++ m))
 unfolding coded

@@ -3,7 +3,7 @@
 use mathlib.Core.List.{List}
 use Prim.Native.Nat.{ℕ}
 use Rattle.bits.specs.Refusals.{Answer, accepted, pending, rejected, refused}
-use Rattle.bits.specs.declared.Refusal.the-variants.{Line, State}
+use Rattle.bits.specs.declared.Refusal.the-variants.{Line}
 use Rattle.facch.specs.Decoding.{Content, decodeOf}
 use Rattle.lines.specs.Commands.{parsed}
 use Rattle.lines.specs.Masked.{observedBits}
@@ -27,11 +27,9 @@ unfoldable pub sacchReplied : SacchReceiver → ℕ → ℕ → Replied
 sacchReplied r dvcc field =
     record { receiver = pushOf r field dvcc .receiver; dvcc = dvcc; reply = sacchReply (pushOf r field dvcc .answer) }
 
--- an `F` line: `R n` or `G c m k o`; its decoder knows no Pending and no Rejected
+-- an `F` line: `R n` or `G c m k o`
 unfoldable pub facchReply : Answer Content → Reply
 facchReply (accepted x) = reply.FacchWord (x .continuation) (x .message) (x .corrected) (x .observed)
-facchReply pending = reply.Refused State
-facchReply (rejected why) = reply.Refused why
 facchReply (refused why) = reply.Refused why
 
 -- `S` pushes to the one receiver, `D` is its discontinuity, and no other line touches it. A line of no known form is refused with 7, Line.

@@ -9,18 +9,18 @@ use native.Mathlib.Numerals.{add-one}
 use lib.ListN.{length, getD, drop, drop-of-length-le}
 use lib.Seq.{drop-cons}
 use lib.Ieee.{Float, nan}
-use Rattle.bits.specs.Bits.{bit, bits, differ, tally}
+use Rattle.bits.specs.Bits.{bit, bits, disagreement, tally}
 use Rattle.bits.proofs.Binary.{differ-le}
 use Rattle.soft.specs.Reliability.{negative, signCount}
 
 -- the test of two bits
-pub differ-true : (a b : Bool) → not (Bool·beq a b) ≡ true → 1 ≡ differ a b
+pub differ-true : (a b : Bool) → not (Bool·beq a b) ≡ true → 1 ≡ disagreement a b
 differ-true true true h = cc
 differ-true true false h = refl
 differ-true false true h = refl
 differ-true false false h = cc
 
-pub differ-false : (a b : Bool) → not (Bool·beq a b) ≡ false → 0 ≡ differ a b
+pub differ-false : (a b : Bool) → not (Bool·beq a b) ≡ false → 0 ≡ disagreement a b
 differ-false true true h = refl
 differ-false true false h = cc
 differ-false false true h = cc
@@ -34,14 +34,14 @@ pub record Counting (coded : List ℕ) (values : List Float) (n k : ℕ) : Type 
 pub counting-none : (coded : List ℕ) (values : List Float) → Counting coded values 0 0
 counting-none coded values = record { low = omega arith; few = omega arith; rest = zero-add (signCount (bits coded) values) }
 
-pub differ-one : (m : ℕ) (a b : Bool) → m ≡ differ a b → m ≤ 1
+pub differ-one : (m : ℕ) (a b : Bool) → m ≡ disagreement a b → m ≤ 1
 differ-one m a b e = omega (arith, differ-le a b)
 
 module _ {coded : List ℕ} {values : List Float} {n k : ℕ} (i : Counting coded values n k) where
-  pub counting-more : (m : ℕ) → k < length coded → length coded ≡ length values → m ≡ differ (bit (getD coded k 0)) (negative (getD values k nan)) → Counting coded values (n + m) (k + 1)
+  pub counting-more : (m : ℕ) → k < length coded → length coded ≡ length values → m ≡ disagreement (bit (getD coded k 0)) (negative (getD values k nan)) → Counting coded values (n + m) (k + 1)
   unfolding tally
   counting-more m h l e =
-      let t : signCount (bits (drop k coded)) (drop k values) ≡ differ (bit (getD coded k 0)) (negative (getD values k nan)) + signCount (bits (drop (suc k) coded)) (drop (suc k) values) =
+      let t : signCount (bits (drop k coded)) (drop k values) ≡ disagreement (bit (getD coded k 0)) (negative (getD values k nan)) + signCount (bits (drop (suc k) coded)) (drop (suc k) values) =
       ap₂ (λ (u : List ℕ) (w : List Float). signCount (bits u) w) (drop-cons coded k 0 h) (drop-cons values k nan (omega arith)) in
       let s : signCount (bits (drop (k + 1) coded)) (drop (k + 1) values) ≡ signCount (bits (drop (suc k) coded)) (drop (suc k) values) =
       ap (λ (j : ℕ). signCount (bits (drop j coded)) (drop j values)) (add-one k) in

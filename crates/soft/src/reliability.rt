@@ -6,7 +6,7 @@ ghost use mathlib.Core.Path.{_≡_};
 ghost use Prim.Native.Nat.{_≤_, _<_};
 ghost use lib.Ieee.{inf};
 ghost use lib.ListN.{length};
-ghost use Rattle.bits.specs.Bits.{bit, bits, differ};
+ghost use Rattle.bits.specs.Bits.{bit, bits, disagreement};
 ghost use Rattle.soft.specs.Reliability.{allFinite, isFinite, magnitude, negative, signCount};
 
 pub fn infinity() -> f64
@@ -49,7 +49,7 @@ pub fn abs(x: f64) -> f64
 
 // 1 where a coded bit differs from the sign of its reliability. A zero of either sign reads as a zero.
 fn differs_from_sign(sent: u8, value: f64) -> u16
-    ensures { λ r. ⌜ (r ≡ differ (bit sent) (negative value)) × (r ≤ 1) ⌝ }
+    ensures { λ r. ⌜ (r ≡ disagreement (bit sent) (negative value)) × (r ≤ 1) ⌝ }
 {
     if (sent % 2 == 1) != (value < 0.0) {
         1

@@ -5,7 +5,7 @@ use mathlib.Core.List.{List, _∷_}
 use Prim.Native.Nat.{ℕ, _+_, _*_, _/_, _%_, _<_, _≤_}
 use native.Mathlib.Omega.{arith}
 use lib.ListN.{length, getD, drop, length-map, List·getD-map}
-use Rattle.bits.specs.Bits.{bit, bits, differ, tally, allBinary}
+use Rattle.bits.specs.Bits.{bit, bits, disagreement, tally, allBinary}
 use Rattle.bits.proofs.Binary.{differ-le, binary-at}
 use Rattle.bits.proofs.Tally.{drop-two}
 use Rattle.coding.specs.Codes.{dcch}
@@ -22,7 +22,7 @@ use Rattle.viterbi.specs.Rows.{distanceAt, PairsTo, pairOf, SymbolsTo}
 pub distance-le : (place : ℕ) (first second : Bool) → distanceAt place first second ≤ 2
 distance-le place first second = omega (arith, differ-le (outputAt (taps dcch 0) place) first, differ-le (outputAt (taps dcch 1) place) second)
 
-distance-tally : (place : ℕ) (first second : Bool) (r : List Bool) → distanceAt place first second ≡ tally differ (outputsAt dcch place) (first ∷ second ∷ r)
+distance-tally : (place : ℕ) (first second : Bool) (r : List Bool) → distanceAt place first second ≡ tally disagreement (outputsAt dcch place) (first ∷ second ∷ r)
 unfolding tally
 distance-tally place first second r = omega arith
 
@@ -43,16 +43,16 @@ module _ (coded symbols : List ℕ) (rows : List (List ℕ)) (n : ℕ) (four : l
       drop-two (bits coded) (k * 2) false (omega (arith, length-map coded bit))
       ∙ ap₂ (λ (x y : Bool). x ∷ y ∷ drop (k * 2 + 2) (bits coded)) (List·getD-map bit coded (k * 2) 0) (List·getD-map bit coded (k * 2 + 1) 0)
 
-  row : (k : ℕ) → k < n → RowAt dcch differ (bits coded) rows symbols k
+  row : (k : ℕ) → k < n → RowAt dcch disagreement (bits coded) rows symbols k
   row k h place low =
       pairs (getD symbols k 0) (symbol k h .0) place low
       ∙ ap₂ (λ (p q : Bool). distanceAt place p q) (ap bit (symbol k h .1)) (ap bit (symbol k h .2))
       ∙ distance-tally place (bit (getD coded (k * 2) 0)) (bit (getD coded (k * 2 + 1) 0)) (drop (k * 2 + 2) (bits coded))
-      ∙ ap (tally differ (outputsAt dcch place)) (sym (received k h))
+      ∙ ap (tally disagreement (outputsAt dcch place)) (sym (received k h))
 
   pub metric-weight : (s : ℕ) (u : List Bool) → s < 32 → length u ≤ n → wordMetric newestLow (branchBy rows symbols) s u ≡ weightFrom (memoryLow s) (bits coded) u
   unfolding weightFrom
-  metric-weight = metric-coded dcch differ (bits coded) rows symbols tt n row
+  metric-weight = metric-coded dcch disagreement (bits coded) rows symbols tt n row
 
   -- no branch metric is above two
   pub small-rows : Rows rows symbols

@@ -4,13 +4,13 @@ use mathlib.Core.Bool.{Bool}
 use mathlib.Core.List.{List, []}
 use Prim.Native.Nat.{ℕ, _+_, _*_, _/_, _%_, _<_}
 use lib.ListN.{getD}
-use Rattle.bits.specs.Bits.{bit, differ}
+use Rattle.bits.specs.Bits.{bit, disagreement}
 use Rattle.coding.specs.Codes.{dcch}
 use Rattle.search.specs.Row.{outputAt, taps}
 
 -- the disagreements of a place's two output bits with a received pair
 abbrev pub distanceAt : ℕ → Bool → Bool → ℕ
-distanceAt place first second = differ (outputAt (taps dcch 0) place) first + differ (outputAt (taps dcch 1) place) second
+distanceAt place first second = disagreement (outputAt (taps dcch 0) place) first + disagreement (outputAt (taps dcch 1) place) second
 
 -- the first k places of a row hold the distances of a pair
 abbrev pub DistancesTo : Bool → Bool → List ℕ → ℕ → Type 0

@@ -3,7 +3,7 @@ use mathlib.Core.Path.{_≡_, refl}
 use Prim.Native.Nat.{_-_}
 use native.Mathlib.Omega.{arith}
 use Rattle.bits.proofs.Filled.{Filling, filling-none, filling-more, filling-done}
-use Rattle.bits.specs.Bits.{bit, differ}
+use Rattle.bits.specs.Bits.{bit, disagreement}
 use Rattle.viterbi.specs.Rows.{distanceAt}
 use Rattle.search.proofs.ByPlace.{output-below, place-cost}
 use Rattle.viterbi.proofs.pair_row.Statement.{statement}
@@ -55,8 +55,8 @@ loop-again c =
     filling-more (c .before .before .before .before .before .loop .inv) _ (omega arith)
     (omega (
       arith,
-      place-cost differ _ place _ _ _ (pre .2 place (omega arith)) (c .before .before .differs .ensures .0),
-      place-cost differ _ place _ _ _ (pre .3 place (omega arith)) (c .differs2 .ensures .0),
+      place-cost disagreement _ place _ _ _ (pre .2 place (omega arith)) (c .before .before .differs .ensures .0),
+      place-cost disagreement _ place _ _ _ (pre .3 place (omega arith)) (c .differs2 .ensures .0),
     ))
 
 returns : tie.Need-returns Inv-loop μ-loop
