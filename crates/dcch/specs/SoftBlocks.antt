@@ -34,14 +34,14 @@ softArguments f block room = firstRefusal (exactOf (encodedBits f) block) (exact
 unfoldable pub signsOf : List Bool → List Float → ℕ
 signsOf inputs values = signCount (coded dcch (memoryHigh 0) inputs) values
 
--- What the search of cells that are finite gives: the word found, and the end of the decoding. count says which bits of the word's inputs are corrected.
+-- What the search of finite cells gives: the word found, and the end of the decoding. count is the number of corrected bits, by a word's inputs and the cells.
 pub record CellsSearched (count : List Bool → List Float → ℕ) (cells : List Float) (dvcc : ℕ) (mode : CrcMode) (information₀ information : List ℕ) (r : Decoded) : Type 0 where
   pub bits : List ℕ
   pub found : SoftFound cells (length information₀ + 21) bits
   pub finished : Finished (reverse (found .word)) (count (reverse (found .word)) cells) dvcc mode information₀ information r
 
--- The end of a soft decoding of a block that is finite, with its count of corrected bits. The word that it works with ends in five zeros and is what the
--- Rust reads back, the survivor's over doubles. Where every reliability of the block is a whole number of size at most 2 ^ 40 no sum rounds, and it is the
+-- The end of a soft decoding of a block of finite reliabilities, with a count of corrected bits. Its word ends in five zeros and is what the Rust reads
+-- back, which is the survivor's over doubles. Where every reliability of the block is a whole number of size at most 2 ^ 40 no sum rounds, and it is the
 -- first of the words of least total cost among all that end in five zeros.
 pub record SoftEnd (count : List Bool → List Float → ℕ) (f : BlockFormat) (block : List Float) (dvcc : ℕ) (mode : CrcMode) (information₀ information : List ℕ) (r : Decoded) : Type 0 where
   pub word : List Bool

@@ -5,5 +5,8 @@ mod soft_block;
 pub use crate::block::Decoded;
 pub use crate::block::decode;
 pub use crate::block::encode;
+pub use bits::Refusal;
+pub use bits::Wrote;
+pub use checksums::CrcMode;
 pub use dcch_interleaver::BlockFormat;
 pub use soft_block::decode_soft;

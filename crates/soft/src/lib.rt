@@ -3,10 +3,8 @@
 mod reliability;
 mod step;
 
-pub use crate::reliability::abs;
 pub use crate::reliability::all_finite;
 use crate::reliability::infinity;
-pub use crate::reliability::is_finite;
 pub use crate::reliability::sign_count;
 use crate::step::advance;
 use crate::step::branch_metrics;
