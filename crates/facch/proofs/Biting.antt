@@ -7,7 +7,7 @@ use native.Mathlib.Omega.{arith}
 use lib.Bits.{bitOr}
 use lib.Dec.{T, ltb, ltb→lt}
 use lib.ListN.{length, take, drop, getD, length-drop, drop-of-length-le}
-use lib.Seq.{length-take-le, take-all, drop-at, length-front}
+use lib.Seq.{length-take-le, take-all, drop-at}
 use borrow.Rule.Slice.PartMut.{putMid}
 use Rattle.bits.specs.Bits.{bit, bits, bytes, byte, allBinary}
 use Rattle.bits.proofs.Binary.{byte-bit, bits-take, bits-drop, binary-head, binary-tail, binary-take, binary-drop}
@@ -93,9 +93,6 @@ module _ (word coded₀ : List ℕ) (size : length word ≡ 65) (binary : allBin
   )
 
   module _ (out : List ℕ) (kept : length out ≡ length (take 240 coded₀)) where
-    pub after-rest : length (out ++ drop 240 coded₀) ≡ 260
-    after-rest = length-front coded₀ out 240 kept ∙ room
-
     back : drop 240 (out ++ drop 240 coded₀) ≡ drop 240 coded₀
     back = drop-at out (drop 240 coded₀) 240 (became-length 240 coded₀ first-room out kept)
 
