@@ -1,64 +1,116 @@
 -- The encoder over a list of calls: its fields are the diagonal of its rows. Assumes nothing.
-use mathlib.Core.Path.{_≡_, refl, sym, _∙_, ap}
-use mathlib.Core.Bool.{Bool}
-use mathlib.Core.List.{List, [], _∷_, _++_}
+use mathlib.Core.Path.{_≡_, refl, sym, _∙_, ap, subst}
+use mathlib.Core.Bool.{Bool, true, false, cond, false≢true}
+use mathlib.Core.List.{List, [], _∷_, _++_, map}
 use Prim.Native.Nat.{ℕ, zero, suc, _+_, _-_, _^_, _≤_, _<_}
+use native.Mathlib.Decide.{decLt}
 use native.Mathlib.Nat.{zero-add}
 use native.Mathlib.Omega.{arith}
 use lib.ListN.{getD, length, replicate}
-use Rattle.bits.specs.Refusals.{accepted, refused}
+use Rattle.bits.specs.Arguments.{firstRefusal, belowOf}
+use Rattle.bits.specs.Bits.{allBelow}
+use Rattle.bits.specs.Refusals.{accepted}
 use Rattle.bits.specs.declared.arguments.Arguments.{Arguments}
-use Rattle.bits.specs.declared.Refusal.the-variants.{Symbol}
+use Rattle.bits.specs.declared.arguments.Arguments.the-variants.{Passed, Refused}
+use Rattle.bits.proofs.Below.{below-head, below-tail}
 use Rattle.bits.proofs.Ring.{Holds, holds-next}
 use Rattle.sacch_interleaver.proofs.Diagonal.{diagonal, field-of}
 use Rattle.sacch_interleaver.proofs.Rings.{after, after-start, after-then}
-use Rattle.sacch_encoder.specs.Words.{codedRow, memoryAfter, sixesOf, wordOf}
-use Rattle.sacch_encoder.specs.Encoder.{encoded, fieldNow, encodedAll, fieldsFrom, sending, Sent, encodeBitsOf, encodeWordOf}
+use Rattle.sacch_encoder.specs.Words.{codedRow, memoryAfter}
+use Rattle.sacch_encoder.specs.Encoder.{encoderState, encoded, fieldNow, encodedAll, fieldsFrom, sending, Sent, encodeBitsOf, encodeWordOf}
 use Rattle.sacch_encoder.specs.declared.SacchEncoder.{SacchEncoder}
 use Rattle.sacch_encoder.proofs.Rows.{row-below}
-use Rattle.sacch.specs.Calls.{EncoderCall, Given, Words, no-words, sent, refused-word, refused-bits, brought, fieldsSent}
-use Rattle.sacch.specs.Listening.{rowsFrom, sixesForAll}
+use Rattle.sacch.specs.Calls.{EncoderCall, word, bits, Given, Words, no-words, sent, refused-call, isRefused, called, fieldsSent}
+use Rattle.sacch.specs.Listening.{rowsFrom, sixesFor, sixesForAll, afterWord}
 use Rattle.sacch.proofs.Fitting.{FittingEncoder, encoder-fits, encoded-fits, all-fit, call-passed, call-refused}
 
--- ---- the calls
-word-sent : {e : SacchEncoder} (c : Bool) (m d : ℕ) → FittingEncoder e → m < 2 ^ 48
-    → encodeWordOf e c m d ≡ record { answer = accepted tt; encoder = encodedAll e (sixesOf (wordOf c m d)); made = fieldsFrom e (sixesOf (wordOf c m d)) }
-unfolding encodeWordOf
-word-sent {e} c m d f h =
-    ap (λ (l : Arguments). sending l e (replicate 11 0) (encodedAll e (sixesOf (wordOf c m d))) (fieldsFrom e (sixesOf (wordOf c m d))))
-    (call-passed (encoder-fits f) (2 ^ 48) m h)
+-- the memory after sixes
+unfoldable pub memoryFrom : ℕ → List ℕ → ℕ
+memoryFrom memory [] = memory
+memoryFrom memory (six ∷ sixes) = memoryFrom (memoryAfter memory six) sixes
 
-word-refused : {e : SacchEncoder} (c : Bool) (m d : ℕ) → FittingEncoder e → 2 ^ 48 ≤ m
-    → encodeWordOf e c m d ≡ record { answer = refused Symbol; encoder = e; made = replicate 11 0 }
-unfolding encodeWordOf
-word-refused {e} c m d f h =
-    ap (λ (l : Arguments). sending l e (replicate 11 0) (encodedAll e (sixesOf (wordOf c m d))) (fieldsFrom e (sixesOf (wordOf c m d))))
-    (call-refused (encoder-fits f) (2 ^ 48) m h)
+memory-all : (sixes : List ℕ) (e : SacchEncoder) → encodedAll e sixes .memory ≡ memoryFrom (e .memory) sixes
+unfolding encodedAll encoded memoryFrom
+memory-all [] e = refl
+memory-all (six ∷ sixes) e = memory-all sixes (encoded e six)
 
-bits-refused : {e : SacchEncoder} (six : ℕ) → FittingEncoder e → 64 ≤ six → encodeBitsOf e six ≡ record { answer = refused Symbol; encoder = e; made = 0 }
-unfolding encodeBitsOf
-bits-refused {e} six f h =
-    ap (λ (l : Arguments). sending l e 0 (encoded e six) (fieldNow (encoded e six))) (call-refused (encoder-fits f) 64 six h)
+-- ---- one call
+module _ (dvcc : ℕ) (g : Given) {e : SacchEncoder} (f : FittingEncoder e) where
+  pub word-sent : g .message < 2 ^ 48
+      → called e (word dvcc g) ≡ record { answer = accepted tt; encoder = encodedAll e (sixesFor dvcc g); made = fieldsFrom e (sixesFor dvcc g) }
+  unfolding encodeWordOf
+  word-sent h =
+      ap (λ (l : Arguments). sending l e (replicate 11 0) (encodedAll e (sixesFor dvcc g)) (fieldsFrom e (sixesFor dvcc g)))
+      (call-passed (encoder-fits f) (2 ^ 48) (g .message) h)
 
+  word-refused : 2 ^ 48 ≤ g .message → isRefused (called e (word dvcc g) .answer) ≡ true
+  unfolding encodeWordOf
+  word-refused h =
+      ap (λ (l : Arguments). isRefused (sending l e (replicate 11 0) (encodedAll e (sixesFor dvcc g)) (fieldsFrom e (sixesFor dvcc g)) .answer))
+      (call-refused (encoder-fits f) (2 ^ 48) (g .message) h)
+
+  -- refused exactly where the message has more than 48 bits
+  pub word-taken : isRefused (called e (word dvcc g) .answer) ≡ false → g .message < 2 ^ 48
+  word-taken n = elim (decLt (g .message) (2 ^ 48)) [
+    | yes h ↦ h
+    | no h ↦ absurd (false≢true (sym n ∙ word-refused (omega arith)))
+  ]
+
+  -- the memory that it leaves
+  pub memory-after-word : g .message < 2 ^ 48 → afterWord dvcc e g .memory ≡ memoryFrom (e .memory) (sixesFor dvcc g)
+  memory-after-word h = ap (λ (s : Sent (List ℕ)). s .encoder .memory) (word-sent h) ∙ memory-all (sixesFor dvcc g) e
+
+  pub word-fits : g .message < 2 ^ 48 → FittingEncoder (afterWord dvcc e g)
+  word-fits h = subst (λ (s : Sent (List ℕ)). FittingEncoder (s .encoder)) (sym (word-sent h)) (all-fit (sixesFor dvcc g) f)
+
+-- a refused one leaves the encoder
+sending-leaves : {A : Type 0} (l : Arguments) (e e′ : SacchEncoder) (nothing made : A)
+    → isRefused (sending l e nothing e′ made .answer) ≡ true → sending l e nothing e′ made .encoder ≡ e
+sending-leaves (Refused why) e e′ nothing made r = refl
+sending-leaves Passed e e′ nothing made r = absurd (false≢true r)
+
+pub refused-leaves : (e : SacchEncoder) (call : EncoderCall) → isRefused (called e call .answer) ≡ true → called e call .encoder ≡ e
+unfolding encodeWordOf encodeBitsOf
+refused-leaves e (word dvcc g) r =
+    sending-leaves (firstRefusal (encoderState e) (belowOf (2 ^ 48) (g .message))) e (encodedAll e (sixesFor dvcc g)) (replicate 11 0) (fieldsFrom e (sixesFor dvcc g)) r
+refused-leaves e (bits six) r = sending-leaves (firstRefusal (encoderState e) (belowOf 64 six)) e (encoded e six) 0 (fieldNow (encoded e six)) r
+
+-- ---- a list of calls
 fields-append : (sixes others : List ℕ) (e : SacchEncoder) → fieldsFrom e (sixes ++ others) ≡ fieldsFrom e sixes ++ fieldsFrom (encodedAll e sixes) others
 unfolding fieldsFrom encodedAll
 fields-append [] others e = refl
 fields-append (six ∷ sixes) others e = ap (_∷_ (fieldNow (encoded e six))) (fields-append sixes others (encoded e six))
 
--- a call that is refused leaves the encoder and brings no field
-pub fields-sent : (dvcc : ℕ) {calls : List EncoderCall} {given : List Given} → Words dvcc calls given → (e : SacchEncoder) → FittingEncoder e
+pub fields-sent : (dvcc : ℕ) {e : SacchEncoder} {calls : List EncoderCall} {given : List Given} → Words dvcc e calls given → FittingEncoder e
     → fieldsSent e calls ≡ fieldsFrom e (sixesForAll dvcc given)
 unfolding fieldsSent fieldsFrom sixesForAll
-fields-sent dvcc no-words e f = refl
-fields-sent dvcc (sent {calls} {given} c m h words) e f =
-    let sixes : List ℕ = sixesOf (wordOf c m dvcc) in
-    ap (λ (s : Sent (List ℕ)). brought (s .answer) (s .made) ++ fieldsSent (s .encoder) calls) (word-sent c m dvcc f h)
-    ∙ ap (λ (l : List ℕ). fieldsFrom e sixes ++ l) (fields-sent dvcc words (encodedAll e sixes) (all-fit sixes f))
-    ∙ sym (fields-append sixes (sixesForAll dvcc given) e)
-fields-sent dvcc (refused-word {calls} other c m h words) e f =
-    ap (λ (s : Sent (List ℕ)). brought (s .answer) (s .made) ++ fieldsSent (s .encoder) calls) (word-refused c m other f h) ∙ fields-sent dvcc words e f
-fields-sent dvcc (refused-bits {calls} six h words) e f =
-    ap (λ (s : Sent ℕ). brought (s .answer) (s .made ∷ []) ++ fieldsSent (s .encoder) calls) (bits-refused six f h) ∙ fields-sent dvcc words e f
+fields-sent dvcc no-words f = refl
+fields-sent dvcc (sent {e} {calls} {given} g n words) f =
+    let h : g .message < 2 ^ 48 = word-taken dvcc g f n in
+    let c : Sent (List ℕ) = called e (word dvcc g) in
+    ap (λ (l : List ℕ). cond (isRefused (c .answer)) [] (c .made) ++ l) (fields-sent dvcc words (word-fits dvcc g f h))
+    ∙ ap (λ (s : Sent (List ℕ)). cond (isRefused (s .answer)) [] (s .made) ++ fieldsFrom (s .encoder) (sixesForAll dvcc given)) (word-sent dvcc g f h)
+    ∙ sym (fields-append (sixesFor dvcc g) (sixesForAll dvcc given) e)
+fields-sent dvcc (refused-call {e} {calls} {given} call r words) f =
+    let left : called e call .encoder ≡ e = refused-leaves e call r in
+    ap (λ (b : Bool). cond b [] (called e call .made) ++ fieldsSent (called e call .encoder) calls) r
+    ∙ fields-sent dvcc words (subst FittingEncoder (sym left) f) ∙ ap (λ (d : SacchEncoder). fieldsFrom d (sixesForAll dvcc given)) left
+
+abbrev pub messageGiven : Given → ℕ
+messageGiven g = g .message
+
+-- the calls of words, one after the other
+abbrev pub wordCalls : ℕ → List Given → List EncoderCall
+wordCalls dvcc [] = []
+wordCalls dvcc (g ∷ given) = word dvcc g ∷ wordCalls dvcc given
+
+-- none is refused where each message has 48 bits
+pub words-sent : (dvcc : ℕ) (given : List Given) {e : SacchEncoder} → FittingEncoder e → allBelow (2 ^ 48) (map messageGiven given) ≡ true
+    → Words dvcc e (wordCalls dvcc given) given
+words-sent dvcc [] f h = no-words
+words-sent dvcc (g ∷ given) f h =
+    let m : g .message < 2 ^ 48 = below-head (2 ^ 48) (g .message) _ h in
+    sent g (ap (λ (s : Sent (List ℕ)). isRefused (s .answer)) (word-sent dvcc g f m)) (words-sent dvcc given (word-fits dvcc g f m) (below-tail (2 ^ 48) (g .message) _ h))
 
 -- ---- the fields of sixes
 pub fields-length : (sixes : List ℕ) (e : SacchEncoder) → length (fieldsFrom e sixes) ≡ length sixes

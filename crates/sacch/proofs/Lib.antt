@@ -9,3 +9,4 @@ pub mod EncoderRun
 pub mod WordRows
 pub mod Listening
 pub mod Planning
+pub mod Premise

@@ -58,7 +58,7 @@ module _ {dvcc a : ℕ} {e : SacchEncoder} {calls : List EncoderCall} {given : L
   receiver = record { fit = receiving.fit-of r (listened .receiver-fits); fields-length = listened .receiver-fields; rows-length = listened .receiver-rows }
 
   all-sent : fieldsSent e calls ≡ fieldsFrom e sixes
-  all-sent = fields-sent dvcc (listened .words) e encoder
+  all-sent = fields-sent dvcc (listened .words) encoder
 
   rows-given : length sentRows ≡ 11 * length given
   rows-given = rows-length sixes (e .memory) ∙ all-length dvcc given
@@ -98,14 +98,14 @@ module _ {dvcc a : ℕ} {e : SacchEncoder} {calls : List EncoderCall} {given : L
       (λ q hq. part-at 11 (a + t - 1) sentRows q hq ∙ sym (on-air-then e sixes (a + t - 1 + q) (a + (t + q) + 11) (omega arith)))
 
   on : (t : ℕ) → t < length fields - 21 → (a + t) % 11 ≡ 1
-      → ((a + t) / 11 < length given) × (decodeRows (window t) dvcc ≡ accepted (wordSent dvcc (e .memory) given ((a + t) / 11)))
+      → ((a + t) / 11 < length given) × (decodeRows (window t) dvcc ≡ accepted (wordSent dvcc e given ((a + t) / 11)))
   on t h b =
       let reached : a - 1 + length fields ≤ 11 * length given = reach (omega arith) in
       let start : a + t - 1 ≡ 11 * ((a + t) / 11) = omega arith in
       let index : (a + t) / 11 < length given = omega arith in (
         index,
         ap (λ (l : List ℕ). decodeRows l dvcc) (sym (heard t h) ∙ ap (λ (k : ℕ). take 11 (drop k sentRows)) start)
-            ∙ word-rows dvcc (listened .words) (e .memory) ((a + t) / 11) (encoder .fit .memory) index,
+            ∙ word-rows dvcc (listened .words) encoder ((a + t) / 11) index,
       )
 
   -- ---- the answers of the fields from the 22nd on are those of the trials
@@ -119,7 +119,7 @@ module _ {dvcc a : ℕ} {e : SacchEncoder} {calls : List EncoderCall} {given : L
       ∙ answers-at dvcc (listened .pushed) receiver field field-at (11 + (10 + t)) (omega arith)
 
   module _ (no-false : NoFalseWord dvcc a e given (length fields)) where
-    windows : Windows a (length fields - 21) (wordSent dvcc (e .memory) given) (λ (t : ℕ). decodeRows (window t) dvcc)
+    windows : Windows a (length fields - 21) (wordSent dvcc e given) (λ (t : ℕ). decodeRows (window t) dvcc)
     windows = record {
       on = λ t h b. on t h b .1;
       off = λ t h b w z.
@@ -128,7 +128,7 @@ module _ {dvcc a : ℕ} {e : SacchEncoder} {calls : List EncoderCall} {given : L
           (ap (λ (k : ℕ). decodeRows (heardRows dvcc e given k) dvcc) m ∙ ap (λ (l : List ℕ). decodeRows l dvcc) (heard t h) ∙ z);
     }
 
-    trials : Trials a (length fields - 21) (receiverAt dvcc r field 11 .phase) (wordSent dvcc (e .memory) given) (λ (t : ℕ). decodeRows (window t) dvcc) out
+    trials : Trials a (length fields - 21) (receiverAt dvcc r field 11 .phase) (wordSent dvcc e given) (λ (t : ℕ). decodeRows (window t) dvcc) out
         (λ (t : ℕ). receiverAt dvcc r field (11 + (10 + t)) .lock)
     trials = heard-trials dvcc hearing windows
 
@@ -138,7 +138,7 @@ module _ {dvcc a : ℕ} {e : SacchEncoder} {calls : List EncoderCall} {given : L
 
     promised : Promised dvcc a e given r pushes (length fields)
     promised = record {
-      counts = answers-length dvcc (listened .pushed) receiver;
+      counts = answers-length dvcc (listened .pushed);
       only-sent = λ n h l w o.
           let m : a + (n - 22) ≡ a + n - 22 = omega arith in
           let s = only-words trials (n - 22) (omega arith) w (word-at n h l w o) in

@@ -14,7 +14,7 @@ use Rattle.sacch.specs.Listening.{wordSent, Begins, answer, Promised}
 module _ {dvcc a N : ℕ} {e : SacchEncoder} {given : List Given} {r : SacchReceiver} {pushes : List Push} (promise : Promised dvcc a e given r pushes N) where
   -- field n gives the word of index j (from 0)
   abbrev pub Gives : ℕ → ℕ → Type 0
-  Gives n j = (j < length given) × (answer r pushes n ≡ accepted (wordSent dvcc (e .memory) given j))
+  Gives n j = (j < length given) × (answer r pushes n ≡ accepted (wordSent dvcc e given j))
 
   next-after : (f : ℕ) → 22 ≤ f → f ≤ N → (w : SacchWord) → answer r pushes f ≡ accepted w → (k : ℕ) → f + 11 * k ≤ N
       → Gives (f + 11 * k) ((a + f - 22) / 11 + k)

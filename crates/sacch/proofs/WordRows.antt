@@ -24,13 +24,16 @@ use Rattle.sacch.proofs.RoundTrip.{word-length}
 use Rattle.sacch_encoder.proofs.Rows.{row-length, memory-below, memory-holds}
 use Rattle.sacch_decoder.specs.Decoding.{decodeOf}
 use Rattle.sacch_receiver.specs.Stored.{rowBits, decodeRows}
-use Rattle.sacch.specs.Calls.{EncoderCall, Given, Words, no-words, sent, refused-word, refused-bits}
-use Rattle.sacch.specs.Listening.{rowsFrom, memoryFrom, sixesFor, sixesForAll, wordSent}
+use Rattle.sacch_encoder.specs.declared.SacchEncoder.{SacchEncoder}
+use Rattle.sacch.specs.Calls.{EncoderCall, Given, Words, no-words, sent, refused-call, called}
+use Rattle.sacch.specs.Listening.{rowsFrom, sixesFor, sixesForAll, wordSent}
+use Rattle.sacch.proofs.Fitting.{FittingEncoder}
+use Rattle.sacch.proofs.EncoderRun.{memoryFrom, word-taken, memory-after-word, word-fits, refused-leaves}
 use Rattle.sacch.proofs.RoundTrip.{sacch-round-trip}
 
 -- ---- a word and its sixes
 -- the bits of sixes one after the other
-unfoldable sixBits : List ℕ → List Bool
+unfoldable pub sixBits : List ℕ → List Bool
 sixBits [] = []
 sixBits (six ∷ sixes) = unpacked 6 six ++ sixBits sixes
 
@@ -49,7 +52,7 @@ sixes-again (suc n) w h =
     ∙ sixes-again n (drop 6 w) rest)
     ∙ take-append-drop 6 w
 
-word-again : (c : Bool) (m d : ℕ) → sixBits (sixesOf (wordOf c m d)) ≡ wordOf c m d
+pub word-again : (c : Bool) (m d : ℕ) → sixBits (sixesOf (wordOf c m d)) ≡ wordOf c m d
 unfolding sixesOf
 word-again c m d = sixes-again 11 (wordOf c m d) (word-length c m d)
 
@@ -69,7 +72,7 @@ row-ran s six =
       holds = memory-holds s six;
     }
 
-rows-ran : (sixes : List ℕ) (s : ℕ) → s < 32 → Ran dcch memoryHigh s (sixBits sixes) (memoryFrom s sixes) (bytes (rowBits (rowsFrom s sixes)))
+pub rows-ran : (sixes : List ℕ) (s : ℕ) → s < 32 → Ran dcch memoryHigh s (sixBits sixes) (memoryFrom s sixes) (bytes (rowBits (rowsFrom s sixes)))
 unfolding sixBits rowsFrom memoryFrom rowBits
 rows-ran [] s h = ran-none h refl
 rows-ran (six ∷ sixes) s h =
@@ -155,16 +158,20 @@ module _ (dvcc s : ℕ) (g : Given) (given : List Given) where
       ap₂ (λ (n : ℕ) (l : List ℕ). take 11 (drop n l)) e both ∙ ap (take 11) (drop-append-add first others (11 * k))
 
 -- the k-th eleven rows decode to the k-th word
-pub word-rows : (dvcc : ℕ) {calls : List EncoderCall} {given : List Given} → Words dvcc calls given → (s k : ℕ) → s < 32 → k < length given
-    → decodeRows (take 11 (drop (11 * k) (rowsFrom s (sixesForAll dvcc given)))) dvcc ≡ accepted (wordSent dvcc s given k)
+pub word-rows : (dvcc : ℕ) {e : SacchEncoder} {calls : List EncoderCall} {given : List Given} → Words dvcc e calls given → FittingEncoder e → (k : ℕ) → k < length given
+    → decodeRows (take 11 (drop (11 * k) (rowsFrom (e .memory) (sixesForAll dvcc given)))) dvcc ≡ accepted (wordSent dvcc e given k)
 unfolding wordSent
-word-rows dvcc no-words s k h hk = absurd (omega arith)
-word-rows dvcc (sent {given = given} c m hm words) s zero h hk =
-    let g : Given = record { continuation = c; message = m } in
-    ap (λ (l : List ℕ). decodeRows l dvcc) (first-rows dvcc s g given) ∙ window-decodes s dvcc g h hm
-word-rows dvcc (sent {given = given} c m hm words) s (suc k) h hk =
-    let g : Given = record { continuation = c; message = m } in
-    ap (λ (l : List ℕ). decodeRows l dvcc) (later-rows dvcc s g given k)
-    ∙ word-rows dvcc words (memoryFrom s (sixesFor dvcc g)) k (memory-from-below (sixesFor dvcc g) s h) (omega arith)
-word-rows dvcc (refused-word other c m hm words) s k h hk = word-rows dvcc words s k h hk
-word-rows dvcc (refused-bits six hs words) s k h hk = word-rows dvcc words s k h hk
+word-rows dvcc no-words f k hk = absurd (omega arith)
+word-rows dvcc (sent {e} {given = given} g n words) f zero hk =
+    let h : g .message < 2 ^ 48 = word-taken dvcc g f n in
+    ap (λ (l : List ℕ). decodeRows l dvcc) (first-rows dvcc (e .memory) g given) ∙ window-decodes (e .memory) dvcc g (f .fit .memory) h
+    ∙ ap (λ (s : ℕ). accepted (record { continuation = g .continuation; message = g .message; corrected = 0; ending = s })) (sym (memory-after-word dvcc g f h))
+word-rows dvcc (sent {e} {given = given} g n words) f (suc k) hk =
+    let h : g .message < 2 ^ 48 = word-taken dvcc g f n in
+    ap (λ (l : List ℕ). decodeRows l dvcc) (later-rows dvcc (e .memory) g given k)
+    ∙ ap (λ (s : ℕ). decodeRows (take 11 (drop (11 * k) (rowsFrom s (sixesForAll dvcc given)))) dvcc) (sym (memory-after-word dvcc g f h))
+    ∙ word-rows dvcc words (word-fits dvcc g f h) k (omega arith)
+word-rows dvcc (refused-call {e} {given = given} call r words) f k hk =
+    let left : called e call .encoder ≡ e = refused-leaves e call r in
+    ap (λ (d : SacchEncoder). decodeRows (take 11 (drop (11 * k) (rowsFrom (d .memory) (sixesForAll dvcc given)))) dvcc) (sym left)
+    ∙ word-rows dvcc words (subst FittingEncoder (sym left) f) k hk ∙ ap (λ (d : SacchEncoder). accepted (wordSent dvcc d given k)) left

@@ -1,49 +1,50 @@
 -- Lists of calls of an encoder and of a receiver: each call gets the state that the last one returned. A call that is refused adds nothing.
-use mathlib.Core.Bool.{Bool}
+use mathlib.Core.Path.{_≡_}
+use mathlib.Core.Bool.{Bool, true, false, cond}
 use mathlib.Core.List.{List, [], _∷_, _++_}
-use Prim.Native.Nat.{ℕ, _^_, _≤_, _<_}
+use Prim.Native.Nat.{ℕ}
 use Rattle.bits.specs.Refusals.{Answer, accepted, pending, rejected, refused}
-use Rattle.sacch_encoder.specs.Encoder.{encodeBitsOf, encodeWordOf}
+use Rattle.sacch_encoder.specs.Encoder.{Sent, encodeBitsOf, encodeWordOf}
 use Rattle.sacch_encoder.specs.declared.SacchEncoder.{SacchEncoder}
 use Rattle.sacch_decoder.specs.declared.SacchWord.{SacchWord}
-use Rattle.sacch_receiver.specs.Receiver.{pushOf}
+use Rattle.sacch_receiver.specs.Receiver.{Moved, pushOf}
 use Rattle.sacch_receiver.specs.declared.SacchReceiver.{SacchReceiver}
 
+-- whether an answer is a refusal; a rejection is none
+abbrev pub isRefused : {A : Type 0} → Answer A → Bool
+isRefused (accepted x) = false
+isRefused pending = false
+isRefused (rejected why) = false
+isRefused (refused why) = true
+
 -- ---- the encoder
--- a call of `encode_word` under a colour code, or of `encode_bits`
-pub data EncoderCall : Type 0 where
-  word : ℕ → Bool → ℕ → EncoderCall
-  bits : ℕ → EncoderCall
-
--- the fields that an answer brings
-abbrev pub brought : Answer Unit → List ℕ → List ℕ
-brought (accepted x) made = made
-brought pending made = []
-brought (rejected why) made = []
-brought (refused why) made = []
-
--- the fields that a list of calls brings
-unfoldable pub fieldsSent : SacchEncoder → List EncoderCall → List ℕ
-fieldsSent e [] = []
-fieldsSent e (word dvcc continuation message ∷ calls) =
-    brought (encodeWordOf e continuation message dvcc .answer) (encodeWordOf e continuation message dvcc .made)
-    ++ fieldsSent (encodeWordOf e continuation message dvcc .encoder) calls
-fieldsSent e (bits six ∷ calls) =
-    brought (encodeBitsOf e six .answer) (encodeBitsOf e six .made ∷ []) ++ fieldsSent (encodeBitsOf e six .encoder) calls
-
 -- a word as it is given to the encoder
 pub record Given : Type 0 where
   pub continuation : Bool
   pub message : ℕ
 
--- Of a list of calls, those not refused are the words `given`, all under one colour code; refused ones may have any.
-pub data Words (dvcc : ℕ) : List EncoderCall → List Given → Type 0 where
-  no-words : Words dvcc [] []
-  sent : {calls : List EncoderCall} {given : List Given} (continuation : Bool) (message : ℕ) → message < 2 ^ 48 → Words dvcc calls given
-      → Words dvcc (word dvcc continuation message ∷ calls) (record { continuation = continuation; message = message } ∷ given)
-  refused-word : {calls : List EncoderCall} {given : List Given} (other : ℕ) (continuation : Bool) (message : ℕ) → 2 ^ 48 ≤ message → Words dvcc calls given
-      → Words dvcc (word other continuation message ∷ calls) given
-  refused-bits : {calls : List EncoderCall} {given : List Given} (six : ℕ) → 64 ≤ six → Words dvcc calls given → Words dvcc (bits six ∷ calls) given
+-- a call of `encode_word` under a colour code, or of `encode_bits`
+pub data EncoderCall : Type 0 where
+  word : ℕ → Given → EncoderCall
+  bits : ℕ → EncoderCall
+
+-- what a call answers, the encoder after it, and the fields that it made
+abbrev pub called : SacchEncoder → EncoderCall → Sent (List ℕ)
+called e (word dvcc g) = encodeWordOf e (g .continuation) (g .message) dvcc
+called e (bits six) = record { answer = encodeBitsOf e six .answer; encoder = encodeBitsOf e six .encoder; made = encodeBitsOf e six .made ∷ [] }
+
+-- the fields that a list of calls brings
+unfoldable pub fieldsSent : SacchEncoder → List EncoderCall → List ℕ
+fieldsSent e [] = []
+fieldsSent e (call ∷ calls) = cond (isRefused (called e call .answer)) [] (called e call .made) ++ fieldsSent (called e call .encoder) calls
+
+-- Of the calls of an encoder, those not refused are the words `given`, all under one colour code; a refused one may be any.
+pub data Words (dvcc : ℕ) : SacchEncoder → List EncoderCall → List Given → Type 0 where
+  no-words : {e : SacchEncoder} → Words dvcc e [] []
+  sent : {e : SacchEncoder} {calls : List EncoderCall} {given : List Given} (g : Given) → isRefused (called e (word dvcc g) .answer) ≡ false
+      → Words dvcc (called e (word dvcc g) .encoder) calls given → Words dvcc e (word dvcc g ∷ calls) (g ∷ given)
+  refused-call : {e : SacchEncoder} {calls : List EncoderCall} {given : List Given} (call : EncoderCall) → isRefused (called e call .answer) ≡ true
+      → Words dvcc (called e call .encoder) calls given → Words dvcc e (call ∷ calls) given
 
 -- ---- the receiver
 -- a push of a field under a colour code
@@ -51,23 +52,20 @@ pub record Push : Type 0 where
   pub field : ℕ
   pub dvcc : ℕ
 
--- a refused push is not counted; a rejection is no refusal
-abbrev pub counted : Answer SacchWord → List (Answer SacchWord) → List (Answer SacchWord)
-counted (accepted w) answers = accepted w ∷ answers
-counted pending answers = pending ∷ answers
-counted (rejected why) answers = rejected why ∷ answers
-counted (refused why) answers = answers
+-- what it answers, and the receiver after it
+abbrev pub pushedBy : SacchReceiver → Push → Moved
+pushedBy r p = pushOf r (p .field) (p .dvcc)
 
--- the answers to a list of pushes
+-- the answers to a list of pushes; a refused one is not counted
 unfoldable pub answers : SacchReceiver → List Push → List (Answer SacchWord)
 answers r [] = []
 answers r (p ∷ pushes) =
-    counted (pushOf r (p .field) (p .dvcc) .answer) (answers (pushOf r (p .field) (p .dvcc) .receiver) pushes)
+    cond (isRefused (pushedBy r p .answer)) (answers (pushedBy r p .receiver) pushes) (pushedBy r p .answer ∷ answers (pushedBy r p .receiver) pushes)
 
--- Of a list of pushes, those not refused are `fields`, all under one colour code; refused ones may have any.
-pub data Fields (dvcc : ℕ) : List Push → List ℕ → Type 0 where
-  no-fields : Fields dvcc [] []
-  pushed : {pushes : List Push} {fields : List ℕ} (field : ℕ) → field < 4096 → Fields dvcc pushes fields
-      → Fields dvcc (record { field = field; dvcc = dvcc } ∷ pushes) (field ∷ fields)
-  refused-field : {pushes : List Push} {fields : List ℕ} (field other : ℕ) → 4096 ≤ field → Fields dvcc pushes fields
-      → Fields dvcc (record { field = field; dvcc = other } ∷ pushes) fields
+-- Of the pushes to a receiver, those not refused are `fields`, all under one colour code; a refused one may be any.
+pub data Fields (dvcc : ℕ) : SacchReceiver → List Push → List ℕ → Type 0 where
+  no-fields : {r : SacchReceiver} → Fields dvcc r [] []
+  pushed : {r : SacchReceiver} {pushes : List Push} {fields : List ℕ} (field : ℕ) → isRefused (pushOf r field dvcc .answer) ≡ false
+      → Fields dvcc (pushOf r field dvcc .receiver) pushes fields → Fields dvcc r (record { field = field; dvcc = dvcc } ∷ pushes) (field ∷ fields)
+  refused-push : {r : SacchReceiver} {pushes : List Push} {fields : List ℕ} (p : Push) → isRefused (pushedBy r p .answer) ≡ true
+      → Fields dvcc (pushedBy r p .receiver) pushes fields → Fields dvcc r (p ∷ pushes) fields
