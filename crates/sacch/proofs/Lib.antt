@@ -10,3 +10,4 @@ pub mod WordRows
 pub mod Listening
 pub mod Planning
 pub mod Premise
+pub mod Schedule

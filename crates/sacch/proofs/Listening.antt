@@ -5,10 +5,9 @@ use Prim.Native.Nat.{ℕ, suc, _+_, _-_, _*_, _/_, _%_, _≤_, _<_, min}
 use native.Mathlib.Omega.{arith}
 use lib.ListN.{getD, length, take, drop, length-take, length-drop}
 use lib.Seq.{length-take-le, getD-take, getD-drop}
-use Rattle.bits.specs.Places.{listed}
 use Rattle.bits.specs.Refusals.{Answer, accepted, pending}
 use Rattle.bits.proofs.Listed.{is-listed}
-use Rattle.sacch_interleaver.proofs.Diagonal.{diagonal}
+use Rattle.sacch_interleaver.proofs.Diagonal.{diagonal, diagonal-below}
 use Rattle.sacch_encoder.specs.Encoder.{fieldsFrom}
 use Rattle.sacch_encoder.specs.declared.SacchEncoder.{SacchEncoder}
 use Rattle.sacch_encoder.proofs.Fits.{fit-of}
@@ -21,7 +20,7 @@ use Rattle.sacch.specs.Listening.{rowsFrom, sixesForAll, wordSent, Liste
 use Rattle.sacch.proofs.Trials.{Windows, Trials, WordWithin, only-words, word-by-20, words-follow}
 use Rattle.sacch_receiver.proofs.Fitting as receiving
 use Rattle.sacch.proofs.Fitting.{Fitting, FittingEncoder}
-use Rattle.sacch.proofs.ReceiverRun.{Hearing, receiverAt, heard-trials}
+use Rattle.sacch.proofs.ReceiverRun.{receiverAt, completed, late-fits, window, trials-run, diagonal-completed}
 use Rattle.sacch.proofs.Pushes.{answers-length, answers-at}
 use Rattle.sacch.proofs.EncoderRun.{fields-sent, fields-length, onAir, on-air-then, on-air-below, fields-diagonal}
 use Rattle.sacch.proofs.WordRows.{rows-length, all-length, word-rows}
@@ -80,25 +79,29 @@ module _ {dvcc a : ℕ} {e : SacchEncoder} {calls : List EncoderCall} {given : L
       ap (λ (l : List ℕ). getD l i 0) (sym (listened .in-order)) ∙ part-at (length fields) (a - 1) (fieldsSent e calls) i h
       ∙ ap (λ (l : List ℕ). getD l (a - 1 + i) 0) all-sent ∙ fields-diagonal e sixes encoder (a - 1 + i) (omega arith) ∙ ap (diagonal air) slot
 
-  hearing : Hearing a air field r
+  field-below : (i : ℕ) → field i < 4096
   unfolding field
-  hearing = record { fit = receiver; from-one = listened .from-one; row-below = on-air-below e sixes; sent = λ i. refl }
+  field-below i = diagonal-below air (a + i)
+
+  row-back : (t : ℕ) → completed field t ≡ air (a + t + 11)
+  unfolding field
+  row-back t = diagonal-completed a air field (listened .from-one) (on-air-below e sixes) (λ i. refl) t
 
   -- ---- the rows of a trial
-  abbrev window : ℕ → List ℕ
-  window t = listed 11 (λ (q : ℕ). air (a + (t + q) + 11))
+  abbrev rowsTried : ℕ → List ℕ
+  rowsTried t = window dvcc field receiver field-below t
 
-  heard : (t : ℕ) → t < length fields - 21 → heardRows dvcc e given (a + t) ≡ window t
+  heard : (t : ℕ) → t < length fields - 21 → heardRows dvcc e given (a + t) ≡ rowsTried t
   heard t h =
       let one : 1 ≤ a = listened .from-one in
       let reached : a - 1 + length fields ≤ 11 * length given = reach (omega arith) in
       let size : length sentRows ≡ 11 * length given = rows-given in
       let left : length (drop (a + t - 1) sentRows) ≡ length sentRows - (a + t - 1) = length-drop (a + t - 1) sentRows in
-      is-listed 11 (λ q. air (a + (t + q) + 11)) 0 _ (length-take-le 11 (drop (a + t - 1) sentRows) (omega arith))
-      (λ q hq. part-at 11 (a + t - 1) sentRows q hq ∙ sym (on-air-then e sixes (a + t - 1 + q) (a + (t + q) + 11) (omega arith)))
+      is-listed 11 (λ q. completed field (t + q)) 0 _ (length-take-le 11 (drop (a + t - 1) sentRows) (omega arith))
+      (λ q hq. part-at 11 (a + t - 1) sentRows q hq ∙ sym (on-air-then e sixes (a + t - 1 + q) (a + (t + q) + 11) (omega arith)) ∙ sym (row-back (t + q)))
 
   on : (t : ℕ) → t < length fields - 21 → (a + t) % 11 ≡ 1
-      → ((a + t) / 11 < length given) × (decodeRows (window t) dvcc ≡ accepted (wordSent dvcc e given ((a + t) / 11)))
+      → ((a + t) / 11 < length given) × (decodeRows (rowsTried t) dvcc ≡ accepted (wordSent dvcc e given ((a + t) / 11)))
   on t h b =
       let reached : a - 1 + length fields ≤ 11 * length given = reach (omega arith) in
       let start : a + t - 1 ≡ 11 * ((a + t) / 11) = omega arith in
@@ -119,7 +122,7 @@ module _ {dvcc a : ℕ} {e : SacchEncoder} {calls : List EncoderCall} {given : L
       ∙ answers-at dvcc (listened .pushed) receiver field field-at (11 + (10 + t)) (omega arith)
 
   module _ (no-false : NoFalseWord dvcc a e given (length fields)) where
-    windows : Windows a (length fields - 21) (wordSent dvcc e given) (λ (t : ℕ). decodeRows (window t) dvcc)
+    windows : Windows a (length fields - 21) (wordSent dvcc e given) (λ (t : ℕ). decodeRows (rowsTried t) dvcc)
     windows = record {
       on = λ t h b. on t h b .1;
       off = λ t h b w z.
@@ -128,9 +131,9 @@ module _ {dvcc a : ℕ} {e : SacchEncoder} {calls : List EncoderCall} {given : L
           (ap (λ (k : ℕ). decodeRows (heardRows dvcc e given k) dvcc) m ∙ ap (λ (l : List ℕ). decodeRows l dvcc) (heard t h) ∙ z);
     }
 
-    trials : Trials a (length fields - 21) (receiverAt dvcc r field 11 .phase) (wordSent dvcc e given) (λ (t : ℕ). decodeRows (window t) dvcc) out
+    trials : Trials a (length fields - 21) (receiverAt dvcc r field 11 .phase) (wordSent dvcc e given) (λ (t : ℕ). decodeRows (rowsTried t) dvcc) out
         (λ (t : ℕ). receiverAt dvcc r field (11 + (10 + t)) .lock)
-    trials = heard-trials dvcc hearing windows
+    trials = record { windows = windows; first = late-fits dvcc field receiver field-below 10 .fit .lock; locking = trials-run dvcc field receiver field-below }
 
     -- where field n gives a word
     word-at : (n : ℕ) → 22 ≤ n → n ≤ length fields → (w : SacchWord) → answer r pushes n ≡ accepted w → out (n - 22) ≡ accepted w

@@ -117,6 +117,12 @@ answers-at dvcc (refused-push {r} {pushes} p t rest) fit stream same i hi =
     ∙ answers-at dvcc rest (subst Fitting (sym stays) fit) stream same i hi
     ∙ ap (λ (s : SacchReceiver). stepOf (receiverAt dvcc s stream i) (stream i) dvcc .answer) stays
 
+pub fields-below : (dvcc : ℕ) {r : SacchReceiver} {pushes : List Push} {fields : List ℕ} → Fields dvcc r pushes fields → Fitting r → (i : ℕ) → getD fields i 0 < 4096
+fields-below dvcc no-fields fit i = omega arith
+fields-below dvcc (pushed field n rest) fit zero = push-taken fit field dvcc n
+fields-below dvcc (pushed field n rest) fit (suc i) = fields-below dvcc rest (push-fits fit field dvcc (push-taken fit field dvcc n)) i
+fields-below dvcc (refused-push {r} p t rest) fit i = fields-below dvcc rest (subst Fitting (sym (refused-stays r p t)) fit) i
+
 -- the pushes of fields, one after the other
 abbrev pub fieldPushes : ℕ → List ℕ → List Push
 fieldPushes dvcc [] = []

@@ -1,11 +1,11 @@
--- A receiver that is pushed the diagonal of a stream of rows: from the twelfth field on it stores these rows, and from the 22nd on eleven of them are tried.
--- Assumes nothing.
+-- A receiver that is pushed a stream of fields: from the twelfth on it stores the rows that they complete, and from the 22nd on eleven of them are tried. Where
+-- the fields are the diagonal of a stream of rows, these are the rows. Assumes nothing.
 use mathlib.Core.Path.{_≡_, refl, sym, _∙_, ap}
 use mathlib.Core.Bool.{Bool, true, false, cond}
 use mathlib.Core.List.{List}
 use Prim.Native.Nat.{ℕ, zero, suc, _+_, _%_, _≤_, _<_, min}
 use native.Mathlib.Omega.{arith}
-use borrow.Author.Tests.{le-ltb}
+use borrow.Author.Tests.{lt-ltb, le-ltb}
 use lib.Dec.{ltb}
 use lib.ListN.{getD}
 use Rattle.bits.specs.Numbers.{packed}
@@ -14,14 +14,14 @@ use Rattle.bits.specs.Refusals.{Answer, pending}
 use Rattle.bits.proofs.Listed.{length-listed, getD-listed, is-listed}
 use Rattle.bits.proofs.Ring.{Holds, holds-next}
 use Rattle.sacch_interleaver.specs.Diagonal.{bitOf, rowOf}
-use Rattle.sacch_interleaver.proofs.Diagonal.{diagonal, diagonal-below, undone, row-of, twelve-same}
+use Rattle.sacch_interleaver.proofs.Diagonal.{diagonal, undone, row-of, twelve-same}
 use Rattle.sacch_interleaver.proofs.Rings.{after, after-start, after-then}
 use Rattle.sacch_decoder.specs.declared.SacchWord.{SacchWord}
 use Rattle.sacch_receiver.specs.Receiver.{fieldStored, rowStored, locked, trialAnswer, trialLock, tried, stepOf, Moved}
 use Rattle.sacch_receiver.specs.Stored.{tries, windowOf, decodeRows}
 use Rattle.sacch_receiver.specs.declared.SacchReceiver.{SacchReceiver}
 use Rattle.sacch.proofs.Fitting.{Fitting, step-fits, either}
-use Rattle.sacch.proofs.Trials.{Windows, Trials}
+use Rattle.sacch.proofs.Trials.{Locking}
 
 -- ---- one step
 -- a trial sets the lock alone
@@ -32,7 +32,7 @@ tried-locks r dvcc =
     either P (ltb (r .available) 11) _ _ refl (either P (tries (r .lock) (r .phase)) _ _ refl refl)
 
 -- the receiver with a field, and with the row that it completes
-unfoldable rowed : SacchReceiver → ℕ → SacchReceiver
+unfoldable pub rowed : SacchReceiver → ℕ → SacchReceiver
 rowed r field = rowStored (fieldStored r field) (rowOf (fieldStored r field .fields) (fieldStored r field .«field_cursor»))
 
 -- what a step makes of the fields does not depend on what follows it
@@ -60,6 +60,18 @@ step-row r field dvcc h =
     ap (λ (b : Bool). cond b (record { answer = pending; receiver = fieldStored r field }) (tried (rowed r field) dvcc))
     (le-ltb (fieldStored r field .received) 12 (omega arith))
 
+-- with fewer it waits
+pub step-waits : (r : SacchReceiver) (field dvcc : ℕ) → r .received < 11 → stepOf r field dvcc ≡ record { answer = pending; receiver = fieldStored r field }
+unfolding stepOf fieldStored rowed
+step-waits r field dvcc h =
+    ap (λ (b : Bool). cond b (record { answer = pending; receiver = fieldStored r field }) (tried (rowed r field) dvcc))
+    (lt-ltb (fieldStored r field .received) 12 (omega arith))
+
+-- and so it does with fewer than eleven rows
+pub tried-waits : (r : SacchReceiver) (dvcc : ℕ) → r .available < 11 → tried r dvcc ≡ record { answer = pending; receiver = r }
+unfolding tried
+tried-waits r dvcc h = rw (lt-ltb (r .available) 11 h)
+
 -- with all eleven rows there, the lock decides; x is what they decode to
 record Decided (b : Bool) (r : SacchReceiver) (x : Answer SacchWord) (m : Moved) : Type 0 where
   answer : m .answer ≡ cond b (trialAnswer x) pending
@@ -82,6 +94,10 @@ abbrev pub receiverAt : ℕ → SacchReceiver → (ℕ → ℕ) → ℕ → Sacc
 receiverAt dvcc r fields zero = r
 receiverAt dvcc r fields (suc i) = stepOf (receiverAt dvcc r fields i) (fields i) dvcc .receiver
 
+-- the row of the fields t to 11 + t (from 0)
+abbrev pub completed : (ℕ → ℕ) → ℕ → ℕ
+completed fields t = packed (listed 12 (λ (j : ℕ). bitOf (fields (t + j)) j))
+
 module _ (dvcc : ℕ) {r : SacchReceiver} (fields : ℕ → ℕ) (fit : Fitting r) (below : (i : ℕ) → fields i < 4096) where
   abbrev at : ℕ → SacchReceiver
   at i = receiverAt dvcc r fields i
@@ -90,7 +106,7 @@ module _ (dvcc : ℕ) {r : SacchReceiver} (fields : ℕ → ℕ) (fit : Fitting 
   at-fits zero = fit
   at-fits (suc i) = step-fits (fields i) dvcc (at-fits i) (below i)
 
-  at-received : (i : ℕ) → at i .received ≡ min 12 (r .received + i)
+  pub at-received : (i : ℕ) → at i .received ≡ min 12 (r .received + i)
   unfolding fieldStored
   at-received zero = omega (arith, fit .fit .received)
   at-received (suc i) = let before : at i .received ≡ min 12 (r .received + i) = at-received i in step-stores (at i) (fields i) dvcc .received ∙ omega arith
@@ -110,72 +126,48 @@ module _ (dvcc : ℕ) {r : SacchReceiver} (fields : ℕ → ℕ) (fit : Fitting 
   at-holds zero = after-start 12 (r .fields) (r .«field_cursor») fields
   at-holds (suc i) = let s = step-stores (at i) (fields i) dvcc in rw (s .fields, s .cursor) (stored-holds i (at-holds i))
 
-  -- field 11 + t (from 0) completes the row of the fields t to 11 + t
-  at-row : (t : ℕ) → rowOf (fieldStored (at (11 + t)) (fields (11 + t)) .fields) (fieldStored (at (11 + t)) (fields (11 + t)) .«field_cursor»)
-      ≡ packed (listed 12 (λ (j : ℕ). bitOf (fields (t + j)) j))
+  -- ---- rows
+  at-row : (t : ℕ) → rowOf (fieldStored (at (11 + t)) (fields (11 + t)) .fields) (fieldStored (at (11 + t)) (fields (11 + t)) .«field_cursor») ≡ completed fields t
   at-row t =
       row-of _ _ seen (suc (11 + t)) (stored-holds (11 + t) (at-holds (11 + t)))
       ∙ twelve-same (λ j. bitOf (seen (suc (11 + t) + j)) j) (λ j. bitOf (fields (t + j)) j)
       (λ j h. ap (λ (x : ℕ). bitOf x j) (after-then 12 (r .fields) (r .«field_cursor») fields (t + j) (suc (11 + t) + j) (omega arith)))
 
-  at-step : (t : ℕ) → stepOf (at (11 + t)) (fields (11 + t)) dvcc ≡ tried (rowed (at (11 + t)) (fields (11 + t))) dvcc
-  at-step t = let e : at (11 + t) .received ≡ min 12 (r .received + (11 + t)) = at-received (11 + t) in
-      step-row (at (11 + t)) (fields (11 + t)) dvcc (omega arith)
-
--- ---- fields that are a diagonal
--- from the first field on, those of the slots a, a + 1 and so on of a stream of rows, where the row of slot s is rows (s + 11)
-pub record Hearing (a : ℕ) (rows fields : ℕ → ℕ) (r : SacchReceiver) : Type 0 where
-  pub fit : Fitting r
-  pub from-one : 1 ≤ a
-  pub row-below : (k : ℕ) → 12 ≤ k → rows k < 4096
-  pub sent : (i : ℕ) → fields i ≡ diagonal rows (a + i)
-
-field-below : {a : ℕ} {rows fields : ℕ → ℕ} {r : SacchReceiver} → Hearing a rows fields r → (i : ℕ) → fields i < 4096
-field-below {a} {rows} {fields} h i = let e : fields i ≡ diagonal rows (a + i) = h .sent i in omega (arith, diagonal-below rows (a + i))
-
-module _ (dvcc : ℕ) {a : ℕ} {rows fields : ℕ → ℕ} {r : SacchReceiver} (hearing : Hearing a rows fields r) where
   -- with 11 + t fields, and with the next one stored and its row
   abbrev late : ℕ → SacchReceiver
-  late t = receiverAt dvcc r fields (11 + t)
+  late t = at (11 + t)
 
   abbrev full : ℕ → SacchReceiver
   full t = rowed (late t) (fields (11 + t))
 
-  late-fits : (t : ℕ) → Fitting (late t)
-  late-fits t = at-fits dvcc fields (hearing .fit) (field-below hearing) (11 + t)
+  pub late-fits : (t : ℕ) → Fitting (late t)
+  late-fits t = at-fits (11 + t)
 
-  late-step : (t : ℕ) → stepOf (late t) (fields (11 + t)) dvcc ≡ tried (full t) dvcc
-  late-step t = at-step dvcc fields (hearing .fit) (field-below hearing) t
+  pub late-step : (t : ℕ) → stepOf (late t) (fields (11 + t)) dvcc ≡ tried (full t) dvcc
+  late-step t = let e : late t .received ≡ min 12 (r .received + (11 + t)) = at-received (11 + t) in
+      step-row (late t) (fields (11 + t)) dvcc (omega arith)
 
-  -- field 11 + t (from 0) completes the row of slot a + t
-  late-row : (t : ℕ) → rowOf (fieldStored (late t) (fields (11 + t)) .fields) (fieldStored (late t) (fields (11 + t)) .«field_cursor») ≡ rows (a + t + 11)
-  late-row t =
-      at-row dvcc fields (hearing .fit) (field-below hearing) t
-      ∙ twelve-same (λ j. bitOf (fields (t + j)) j) (λ j. bitOf (diagonal rows (a + t + j)) j)
-      (λ j h. let e : a + (t + j) ≡ a + t + j = omega arith in ap (λ (x : ℕ). bitOf x j) (hearing .sent (t + j) ∙ ap (diagonal rows) e))
-      ∙ undone rows (a + t) (hearing .row-below (a + t + 11) (omega (arith, hearing .from-one)))
-
-  late-next : (t : ℕ) → late (suc t) ≡ locked (full t) (tried (full t) dvcc .receiver .lock)
+  pub late-next : (t : ℕ) → late (suc t) ≡ locked (full t) (tried (full t) dvcc .receiver .lock)
   late-next t =
       let e : 11 + suc t ≡ suc (11 + t) = omega arith in
-      ap (receiverAt dvcc r fields) e ∙ ap (λ (m : Moved). m .receiver) (late-step t) ∙ tried-locks (full t) dvcc
+      ap at e ∙ ap (λ (m : Moved). m .receiver) (late-step t) ∙ tried-locks (full t) dvcc
 
-  -- ---- the rows' ring: its old places, then the stream
-  abbrev heard : ℕ → ℕ
-  heard = after 11 (late 0 .rows) (late 0 .«row_cursor») (λ (t : ℕ). rows (a + t + 11))
+  -- the rows' ring: its old places, then the rows completed
+  abbrev rowsSeen : ℕ → ℕ
+  rowsSeen = after 11 (late 0 .rows) (late 0 .«row_cursor») (completed fields)
 
-  full-holds : (t : ℕ) → Holds 11 (late t .rows) (late t .«row_cursor») heard t → Holds 11 (full t .rows) (full t .«row_cursor») heard (suc t)
+  full-holds : (t : ℕ) → Holds 11 (late t .rows) (late t .«row_cursor») rowsSeen t → Holds 11 (full t .rows) (full t .«row_cursor») rowsSeen (suc t)
   unfolding rowed rowStored fieldStored
   full-holds t h =
-      holds-next 11 (late t .rows) (late t .«row_cursor») heard t _ (late-fits t .rows-length) (late-fits t .fit .row-cursor)
-      (after-then 11 (late 0 .rows) (late 0 .«row_cursor») (λ t. rows (a + t + 11)) t (t + 11) refl ∙ sym (late-row t)) h
+      holds-next 11 (late t .rows) (late t .«row_cursor») rowsSeen t _ (late-fits t .rows-length) (late-fits t .fit .row-cursor)
+      (after-then 11 (late 0 .rows) (late 0 .«row_cursor») (completed fields) t (t + 11) refl ∙ sym (at-row t)) h
 
-  late-holds : (t : ℕ) → Holds 11 (late t .rows) (late t .«row_cursor») heard t
+  late-holds : (t : ℕ) → Holds 11 (late t .rows) (late t .«row_cursor») rowsSeen t
   unfolding locked
-  late-holds zero = after-start 11 (late 0 .rows) (late 0 .«row_cursor») (λ t. rows (a + t + 11))
+  late-holds zero = after-start 11 (late 0 .rows) (late 0 .«row_cursor») (completed fields)
   late-holds (suc t) = rw (late-next t) (full-holds t (late-holds t))
 
-  late-available : (t : ℕ) → late t .available ≡ min 11 (late 0 .available + t)
+  pub late-available : (t : ℕ) → late t .available ≡ min 11 (late 0 .available + t)
   unfolding locked rowed rowStored fieldStored
   late-available zero = omega (arith, late-fits 0 .fit .available)
   late-available (suc t) =
@@ -187,19 +179,19 @@ module _ (dvcc : ℕ) {a : ℕ} {rows fields : ℕ → ℕ} {r : SacchReceiver} 
   late-phase (suc t) =
       let before : late t .phase ≡ (late 0 .phase + t) % 11 = late-phase t in ap (λ (s : SacchReceiver). s .phase) (late-next t) ∙ omega arith
 
-  -- ---- the trials
-  -- the eleven rows heard with field 21 + s (from 0): those of the slots a + s to a + s + 10
+  -- ---- trials
+  -- the eleven rows of field 21 + s (from 0)
   abbrev pub window : ℕ → List ℕ
-  window s = listed 11 (λ (q : ℕ). rows (a + (s + q) + 11))
+  window s = listed 11 (λ (q : ℕ). completed fields (s + q))
 
   window-at : (s : ℕ) → windowOf (full (10 + s) .rows) (full (10 + s) .«row_cursor») ≡ window s
   unfolding windowOf
   window-at s =
       let ring = full-holds (10 + s) (late-holds (10 + s)) in
-      is-listed 11 (λ q. rows (a + (s + q) + 11)) 0 _ (length-listed 11 _)
+      is-listed 11 (λ q. completed fields (s + q)) 0 _ (length-listed 11 _)
       (λ q h.
       getD-listed 11 (λ (i : ℕ). getD (full (10 + s) .rows) ((full (10 + s) .«row_cursor» + i) % 11) 0) 0 q h ∙ ring q h
-      ∙ after-then 11 (late 0 .rows) (late 0 .«row_cursor») (λ t. rows (a + t + 11)) (s + q) (suc (10 + s) + q) (omega arith))
+      ∙ after-then 11 (late 0 .rows) (late 0 .«row_cursor») (completed fields) (s + q) (suc (10 + s) + q) (omega arith))
 
   phase-at : (s : ℕ) → full (10 + s) .phase ≡ (late 0 .phase + s) % 11
   unfolding rowed rowStored fieldStored
@@ -224,11 +216,19 @@ module _ (dvcc : ℕ) {a : ℕ} {rows fields : ℕ → ℕ} {r : SacchReceiver} 
   next-lock : (s : ℕ) → late (10 + suc s) .lock ≡ cond (tries-at s) (trialLock (decodeRows (window s) dvcc) ((late 0 .phase + s) % 11)) (late (10 + s) .lock)
   next-lock s =
       let e : 11 + (10 + suc s) ≡ suc (11 + (10 + s)) = omega arith in
-      ap (λ (i : ℕ). receiverAt dvcc r fields i .lock) e
+      ap (λ (i : ℕ). at i .lock) e
       ∙ ap (λ (m : Moved). m .receiver .lock) (late-step (10 + s)) ∙ tried-decides (full (10 + s)) dvcc (enough s) .lock
       ∙ rw (window-at s, phase-at s, lock-at s)
 
-  pub heard-trials : {N : ℕ} {sent : ℕ → SacchWord} → Windows a N sent (λ (s : ℕ). decodeRows (window s) dvcc)
-      → Trials a N (late 0 .phase) sent (λ (s : ℕ). decodeRows (window s) dvcc)
+  pub trials-run : Locking (late 0 .phase) (λ (s : ℕ). decodeRows (window s) dvcc)
       (λ (s : ℕ). stepOf (late (10 + s)) (fields (11 + (10 + s))) dvcc .answer) (λ (s : ℕ). late (10 + s) .lock)
-  heard-trials w = record { windows = w; first = late-fits 10 .fit .lock; next = next-lock; answer = answer-at }
+  trials-run = record { next = next-lock; answer = answer-at }
+
+-- ---- fields that are a diagonal
+-- from the first field on, those of the slots a, a + 1 and so on of a stream of rows, where the row of slot s is rows (s + 11): the rows come back
+pub diagonal-completed : (a : ℕ) (rows fields : ℕ → ℕ) → 1 ≤ a → ((k : ℕ) → 12 ≤ k → rows k < 4096) → ((i : ℕ) → fields i ≡ diagonal rows (a + i))
+    → (t : ℕ) → completed fields t ≡ rows (a + t + 11)
+diagonal-completed a rows fields one below sent t =
+    twelve-same (λ j. bitOf (fields (t + j)) j) (λ j. bitOf (diagonal rows (a + t + j)) j)
+    (λ j h. let e : a + (t + j) ≡ a + t + j = omega arith in ap (λ (x : ℕ). bitOf x j) (sent (t + j) ∙ ap (diagonal rows) e))
+    ∙ undone rows (a + t) (below (a + t + 11) (omega arith))

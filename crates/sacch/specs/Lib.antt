@@ -2,3 +2,4 @@
 pub mod Calls
 pub mod Listening
 pub mod Premise
+pub mod Schedule
