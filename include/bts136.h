@@ -130,6 +130,21 @@ struct bts136_sacch_word {
     uint8_t ending;     /* the encoder's memory after the word, 0 to 31 */
 };
 
+/* The SACCH deinterleaver. Any value may be given; one out of these ranges is refused with 8. */
+struct bts136_deinterleaver {
+    uint16_t fields[12]; /* the last twelve fields, 0 to 4095 */
+    size_t cursor;       /* the place of the next field, 0 to 11 */
+    size_t received;     /* how many fields came, 0 to 12, where it stops */
+};
+
+/* A row of SACCH, and the deinterleaver after it. */
+struct bts136_row {
+    uint8_t refusal;                           /* 0, 2 or 8 */
+    bool complete;                             /* whether the field completed a row: so does each from the twelfth on */
+    uint16_t row;                              /* twelve bits, the first highest: 0 to 4095 */
+    struct bts136_deinterleaver deinterleaver; /* the deinterleaver after the call */
+};
+
 /* The SACCH receiver. Any value may be given; one out of these ranges is refused with 8. */
 struct bts136_receiver {
     uint16_t fields[12]; /* the last twelve fields, 0 to 4095 */
@@ -259,6 +274,16 @@ struct bts136_fields bts136_sacch_encode_word(struct bts136_encoder encoder, boo
 
 /* Decodes the 132 coded bits of a word to the one nearest word, whatever memory the encoder began with. Refused: 1, 2, 5, 6, 3. */
 struct bts136_sacch_word bts136_sacch_decode(const uint8_t *coded, size_t coded_len, uint8_t dvcc);
+
+/* The fresh deinterleaver. */
+struct bts136_deinterleaver bts136_sacch_new_deinterleaver(void);
+/* The fresh deinterleaver, whatever was given. */
+struct bts136_deinterleaver bts136_sacch_reset_deinterleaver(struct bts136_deinterleaver deinterleaver);
+/*
+ * Takes the next field of a channel, twelve bits, the first highest. Give the deinterleaver of the last answer. From the twelfth field
+ * on each completes a row. Refused: 8; 2 for a field above 4095.
+ */
+struct bts136_row bts136_sacch_deinterleave(struct bts136_deinterleaver deinterleaver, uint16_t field);
 
 /* The fresh receiver. */
 struct bts136_receiver bts136_sacch_new_receiver(void);

@@ -1,7 +1,7 @@
 //! What two SACCH ends can be given: states of every kind, and streams of fields as sent, with
 //! what happens to them on the way.
-use crate::phy::sacch::SacchEncoder;
-use crate::phy::sacch::probe::{State, encoder};
+use crate::phy::sacch::probe::{State, deinterleaver, encoder};
+use crate::phy::sacch::{SacchDeinterleaver, SacchEncoder};
 use crate::port_sacch::{number, unpacked};
 use crate::prng::Prng;
 
@@ -29,6 +29,12 @@ pub fn any_receiver(p: &mut Prng) -> State {
         phase: p.below(11),
         locked: p.bit().then(|| p.below(11)),
     }
+}
+
+/// Any deinterleaver that is not refused with 8.
+pub fn any_deinterleaver(p: &mut Prng) -> SacchDeinterleaver {
+    let state = any_receiver(p);
+    deinterleaver((state.fields, state.field_cursor, state.received))
 }
 
 /// A word as it is given to the encoder.

@@ -1,11 +1,11 @@
 //! The port's calls on SACCH, as port.rs has the others, and the Rust's states and answers as the
 //! port has them.
-use crate::phy::sacch::probe::State;
+use crate::phy::sacch::probe::{self, State};
 use crate::phy::sacch::{ReceiveOutcome, SacchError, SacchWord};
 use crate::port::{Of, Refused};
 pub use bindings::flat::sacch_decode as decode;
-pub use bindings::sys::{Encoder, Field, Fields, Pushed, Receiver, SacchWord as Word};
-pub use bindings::sys::{PENDING, REFUSED, REJECTED, UNLOCKED, WORD};
+pub use bindings::sys::{Deinterleaver, Encoder, Field, Fields, Pushed, Receiver, Row};
+pub use bindings::sys::{PENDING, REFUSED, REJECTED, SacchWord as Word, UNLOCKED, WORD};
 
 pub fn number(bits: &[bool]) -> u64 {
     bits.iter()
@@ -26,6 +26,17 @@ impl Of<(u8, [[bool; 12]; 12], usize)> for Encoder {
             memory,
             rows: packed(history),
             cursor,
+        }
+    }
+}
+
+/// `received` stops at 12.
+impl Of<probe::Fields> for Deinterleaver {
+    fn of((history, cursor, received): probe::Fields) -> Self {
+        Deinterleaver {
+            fields: packed(history),
+            cursor,
+            received: received.min(12),
         }
     }
 }

@@ -2,7 +2,7 @@
 //! fit is refused with a number, and then nothing is written.
 //!
 //! Bits are bytes 0 and 1, reliabilities doubles; answers are the records of [`sys`]. The calls on
-//! states are methods of [`Encoder`] and [`Receiver`].
+//! states are methods of [`Encoder`], [`Deinterleaver`] and [`Receiver`].
 //!
 //! ```
 //! use bts136::flat;
@@ -172,6 +172,21 @@ impl Encoder {
     /// Codes a word into the next eleven fields.
     pub fn encode_word(self, continuation: bool, message: u64, dvcc: u8) -> Fields {
         sys::bts136_sacch_encode_word(self, continuation, message, dvcc)
+    }
+}
+
+impl Deinterleaver {
+    /// The fresh deinterleaver.
+    pub fn fresh() -> Self {
+        sys::bts136_sacch_new_deinterleaver()
+    }
+    /// The fresh deinterleaver, whatever this one is.
+    pub fn reset(self) -> Self {
+        sys::bts136_sacch_reset_deinterleaver(self)
+    }
+    /// Takes a field; from the twelfth on each completes a row.
+    pub fn push(self, field: u16) -> Row {
+        sys::bts136_sacch_deinterleave(self, field)
     }
 }
 

@@ -1,8 +1,8 @@
-//! SACCH: encoder, decoder and receiver, as `phy::sacch` has them.
+//! SACCH: encoder, decoder, deinterleaver and receiver, as `phy::sacch` has them.
 //!
-//! `SacchDeinterleaver` is not here: the receiver has it inside. Encoder and receiver go to and
-//! from the library's records ([`sys::Encoder`], [`sys::Receiver`]), so that they can be stored. An
-//! error also has its [`number`](SacchError::number).
+//! Encoder, deinterleaver and receiver go to and from the library's records ([`sys::Encoder`],
+//! [`sys::Deinterleaver`], [`sys::Receiver`]), so that they can be stored. An error also has its
+//! [`number`](SacchError::number).
 //!
 //! ```
 //! use bts136::sacch::{SacchEncoder, SacchReceiver};
@@ -147,6 +147,52 @@ impl TryFrom<sys::Encoder> for SacchEncoder {
     /// Refused with 8 where something is out of its range.
     fn try_from(record: sys::Encoder) -> Result<Self, Refusal> {
         match record.encode_bits(0).refusal {
+            0 => Ok(Self(record)),
+            8 => Err(Refusal::State),
+            other => never(other),
+        }
+    }
+}
+
+/// The deinterleaver: the last twelve fields. `default` is the fresh one.
+#[derive(Debug, Clone, PartialEq, Eq)]
+pub struct SacchDeinterleaver(sys::Deinterleaver);
+
+impl Default for SacchDeinterleaver {
+    fn default() -> Self {
+        Self(sys::Deinterleaver::fresh())
+    }
+}
+
+impl SacchDeinterleaver {
+    /// Starts anew.
+    pub fn reset(&mut self) {
+        self.0 = self.0.reset();
+    }
+    /// Takes the next field of the channel; from the twelfth on each completes a row (IS-54-B
+    /// 2.7.3.1.2.1).
+    pub fn push(&mut self, slot: [bool; SACCH_BITS]) -> Option<[bool; SACCH_BITS]> {
+        let pushed = self.0.push(packed(&slot) as u16);
+        if pushed.refusal != 0 {
+            never(pushed.refusal)
+        }
+        self.0 = pushed.deinterleaver;
+        pushed.complete.then(|| unpacked(pushed.row.into()))
+    }
+}
+
+impl From<SacchDeinterleaver> for sys::Deinterleaver {
+    fn from(deinterleaver: SacchDeinterleaver) -> Self {
+        deinterleaver.0
+    }
+}
+
+impl TryFrom<sys::Deinterleaver> for SacchDeinterleaver {
+    type Error = Refusal;
+
+    /// Refused with 8 where something is out of its range.
+    fn try_from(record: sys::Deinterleaver) -> Result<Self, Refusal> {
+        match record.push(0).refusal {
             0 => Ok(Self(record)),
             8 => Err(Refusal::State),
             other => never(other),

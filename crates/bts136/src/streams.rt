@@ -1,15 +1,18 @@
-// SACCH: encoder, decoder and receiver. States go in by value and come back.
+// SACCH: encoder, decoder, deinterleaver and receiver. States go in by value and come back.
 use flat_sacch::Field;
 use flat_sacch::Fields;
 use flat_sacch::Pushed;
 use flat_sacch::Receiver;
+use flat_sacch::Row;
 use flat_sacch::Word;
+use sacch::SacchDeinterleaver;
 use sacch::SacchEncoder;
 ghost use mathlib.Core.Path.{_≡_};
 ghost use Rattle.sacch_decoder.specs.Decoding.{decoding, decodeArguments};
 ghost use Rattle.sacch_encoder.specs.Encoder.{encodeBitsOf, encodeWordOf, freshEncoder};
+ghost use Rattle.sacch_interleaver.specs.Deinterleaver.{freshDeinterleaver, pushRowOf};
 ghost use Rattle.sacch_receiver.specs.Receiver.{freshReceiver, pushOf, pushWordOf};
-ghost use Rattle.flat_sacch.specs.Flat.{flatField, flatFields, flatMoved, flatReceiver, flatWord, receiverOf};
+ghost use Rattle.flat_sacch.specs.Flat.{flatField, flatFields, flatMoved, flatPushedRow, flatReceiver, flatWord, receiverOf};
 
 // The fresh encoder.
 #[no_mangle]
@@ -56,6 +59,33 @@ pub extern "C" fn bts136_sacch_decode(coded: &[u8], dvcc: u8) -> Word
     flat_sacch::decode(coded, dvcc)
 }
 
+// The fresh deinterleaver.
+#[no_mangle]
+pub extern "C" fn bts136_sacch_new_deinterleaver() -> SacchDeinterleaver
+    ensures { λ r. ⌜ r ≡ freshDeinterleaver ⌝ }
+{
+    flat_sacch::new_deinterleaver()
+}
+
+// The fresh deinterleaver, whatever was given.
+#[no_mangle]
+pub extern "C" fn bts136_sacch_reset_deinterleaver(
+    deinterleaver: SacchDeinterleaver,
+) -> SacchDeinterleaver
+    ensures { λ r. ⌜ r ≡ freshDeinterleaver ⌝ }
+{
+    flat_sacch::reset_deinterleaver(deinterleaver)
+}
+
+// Takes the next field of a channel, twelve bits, the first highest. Give the deinterleaver of the last answer. From the twelfth field on each completes
+// a row. Refused: 8; 2 for a field above 4095.
+#[no_mangle]
+pub extern "C" fn bts136_sacch_deinterleave(deinterleaver: SacchDeinterleaver, field: u16) -> Row
+    ensures { λ r. ⌜ r ≡ flatPushedRow (pushRowOf deinterleaver field) ⌝ }
+{
+    flat_sacch::deinterleave(deinterleaver, field)
+}
+
 // The fresh receiver.
 #[no_mangle]
 pub extern "C" fn bts136_sacch_new_receiver() -> Receiver
@@ -72,7 +102,6 @@ pub extern "C" fn bts136_sacch_discontinuity(receiver: Receiver) -> Receiver
     flat_sacch::discontinuity(receiver)
 }
 
-// A field pushed: Pending, a word, a rejection or a refusal.
 // Pushes the next field of a channel, twelve bits, the first highest. Give the receiver of the last answer. Unlocked, each field from the 22nd is a
 // trial; a word locks, and then each eleventh field is one; a rejection (5, 6, 3) unlocks. Refused: 8; 2 for a field above 4095.
 #[no_mangle]
@@ -82,7 +111,6 @@ pub extern "C" fn bts136_sacch_pushed(receiver: Receiver, field: u16, dvcc: u8) 
     flat_sacch::push_by_value(receiver, field, dvcc)
 }
 
-// The same, with a word or nothing as the answer.
 // The same with a word or nothing: a rejection is BTS136_PENDING. Refused as above.
 #[no_mangle]
 pub extern "C" fn bts136_sacch_push(receiver: Receiver, field: u16, dvcc: u8) -> Pushed

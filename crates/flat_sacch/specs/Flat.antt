@@ -1,10 +1,12 @@
 -- SACCH's answers and the receiver as flat records. A refusal is a number of document 01, or 0.
-use mathlib.Core.Bool.{false, cond}
+use mathlib.Core.Bool.{true, false, cond}
 use mathlib.Core.List.{List}
 use Prim.Native.Nat.{ℕ}
 use lib.Dec.{eqb}
 use Rattle.bits.specs.Refusals.{Answer, accepted, pending, rejected, refused, numberOf, expectedOf, actualOf}
 use Rattle.bits.specs.declared.Refusal.{Refusal}
+use Rattle.sacch_interleaver.specs.Deinterleaver.{Deinterleaved}
+use Rattle.sacch_interleaver.specs.declared.SacchDeinterleaver.{SacchDeinterleaver}
 use Rattle.sacch_encoder.specs.Encoder.{Sent}
 use Rattle.sacch_decoder.specs.declared.SacchWord.{SacchWord}
 use Rattle.sacch_receiver.specs.Receiver.{Moved}
@@ -14,6 +16,7 @@ use Rattle.sacch_receiver.specs.declared.stored.Lock.the-variants.{Unlocked, Lo
 use Rattle.flat_sacch.specs.declared.Field.{Field}
 use Rattle.flat_sacch.specs.declared.Fields.{Fields}
 use Rattle.flat_sacch.specs.declared.Word.{Word}
+use Rattle.flat_sacch.specs.declared.deinterleaver.Row.{Row}
 use Rattle.flat_sacch.specs.declared.receiver.Receiver.{Receiver}
 use Rattle.flat_sacch.specs.declared.receiver.Pushed.{Pushed}
 
@@ -49,6 +52,16 @@ flatWord (accepted w) =
 flatWord pending = record { refusal = 0; expected = 0; actual = 0; continuation = false; message = 0; corrected = 0; ending = 0 }
 flatWord (rejected why) = noWord why
 flatWord (refused why) = noWord why
+
+-- ---- the deinterleaver, which rejects nothing
+abbrev pub flatRow : Answer ℕ → SacchDeinterleaver → Row
+flatRow (accepted row) d = record { refusal = 0; complete = true; row = row; deinterleaver = d }
+flatRow pending d = record { refusal = 0; complete = false; row = 0; deinterleaver = d }
+flatRow (rejected why) d = record { refusal = numberOf why; complete = false; row = 0; deinterleaver = d }
+flatRow (refused why) d = record { refusal = numberOf why; complete = false; row = 0; deinterleaver = d }
+
+abbrev pub flatPushedRow : Deinterleaved → Row
+flatPushedRow m = flatRow (m .answer) (m .deinterleaver)
 
 -- ---- the receiver: its lock is the locked phase, or 255 where there is none
 unfoldable pub lockOf : ℕ → Lock

@@ -1,9 +1,14 @@
 // Flat functions over `sacch`. Each answers a number of document 01, or 0 with its result.
+mod deinterleaver;
 mod receiver;
 
 use bits::Refusal;
 use bits::Wrote;
 use bits::refusals::number;
+pub use deinterleaver::Row;
+pub use deinterleaver::deinterleave;
+pub use deinterleaver::new_deinterleaver;
+pub use deinterleaver::reset_deinterleaver;
 use flat_coding::calls::not_written;
 pub use receiver::Pushed;
 pub use receiver::Receiver;

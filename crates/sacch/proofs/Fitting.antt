@@ -13,13 +13,15 @@ use Rattle.bits.specs.declared.arguments.Arguments.the-variants.{Passed, Refuse
 use Rattle.bits.specs.declared.Refusal.the-variants.{State, Symbol}
 use Rattle.sacch_interleaver.specs.Diagonal.{rowOf}
 use Rattle.sacch_interleaver.proofs.Diagonal.{twelve-below}
+use Rattle.sacch_interleaver.specs.Deinterleaver.{fieldStored}
+use Rattle.sacch_interleaver.proofs.Deinterleaving as deinterleaving
 use Rattle.bits.proofs.Below.{below-set}
 use Rattle.sacch_encoder.specs.Encoder.{encoderFits, encoded, encodedAll}
 use Rattle.sacch_encoder.specs.declared.SacchEncoder.{SacchEncoder}
 use Rattle.sacch_encoder.proofs.Fits as encoder
 use Rattle.sacch_decoder.specs.declared.SacchWord.{SacchWord}
 use Rattle.sacch_receiver.proofs.Fitting.{Fit}
-use Rattle.sacch_receiver.specs.Receiver.{receiverFits, fieldStored, rowStored, locked, trialLock, tried, stepOf, Moved}
+use Rattle.sacch_receiver.specs.Receiver.{deinterleaverOf, receiverFits, withFields, fieldTaken, rowStored, locked, trialLock, tried, stepOf, Moved}
 use Rattle.sacch_receiver.specs.Stored.{lockFits, tries, windowOf, decodeRows}
 use Rattle.sacch_receiver.specs.declared.stored.Lock.{Lock}
 use Rattle.sacch_receiver.specs.declared.SacchReceiver.{SacchReceiver}
@@ -58,12 +60,12 @@ pub record Fitting (r : SacchReceiver) : Type 0 where
 pub fits : {r : SacchReceiver} → Fitting r → receiverFits r ≡ true
 unfolding receiverFits
 fits {r} f =
-    rw (lt-ltb _ _ (f .fit .field-cursor), lt-ltb _ _ (f .fit .received), lt-ltb _ _ (f .fit .row-cursor), lt-ltb _ _ (f .fit .available), lt-ltb _ _ (f .fit .phase), f .fit .lock, f .fit .fields)
-    (f .fit .rows)
+    let held : deinterleaving.Fit (deinterleaverOf r) = record { cursor = f .fit .field-cursor; received = f .fit .received; fields = f .fit .fields } in
+    rw (deinterleaving.fits-of (deinterleaverOf r) held, lt-ltb _ _ (f .fit .row-cursor), lt-ltb _ _ (f .fit .available), lt-ltb _ _ (f .fit .phase), f .fit .lock) (f .fit .rows)
 
 -- a step keeps it
-pub field-fits : {r : SacchReceiver} (field : ℕ) → Fitting r → field < 4096 → Fitting (fieldStored r field)
-unfolding fieldStored
+pub field-fits : {r : SacchReceiver} (field : ℕ) → Fitting r → field < 4096 → Fitting (fieldTaken r field)
+unfolding withFields fieldStored
 field-fits {r} field f h =
     record {
       fit = record {
@@ -137,6 +139,6 @@ tried-fits {r} dvcc f =
 pub step-fits : {r : SacchReceiver} (field dvcc : ℕ) → Fitting r → field < 4096 → Fitting (stepOf r field dvcc .receiver)
 unfolding stepOf rowOf
 step-fits {r} field dvcc f h =
-    let stored : Fitting (fieldStored r field) = field-fits field f h in
-    either (λ (m : Moved). Fitting (m .receiver)) (ltb (fieldStored r field .received) 12) _ _ stored
+    let stored : Fitting (fieldTaken r field) = field-fits field f h in
+    either (λ (m : Moved). Fitting (m .receiver)) (ltb (fieldTaken r field .received) 12) _ _ stored
     (tried-fits dvcc (row-fits _ stored (twelve-below _)))

@@ -14,7 +14,7 @@ use Rattle.bits.specs.declared.arguments.Arguments.the-variants.{Passed, Refuse
 use Rattle.bits.proofs.Below.{below-head, below-tail}
 use Rattle.sacch_interleaver.specs.Diagonal.{allTwelve}
 use Rattle.sacch_decoder.specs.declared.SacchWord.{SacchWord}
-use Rattle.sacch_receiver.specs.Receiver.{receiverState, fieldStored, trialAnswer, tried, stepOf, pushing, pushOf, Moved}
+use Rattle.sacch_receiver.specs.Receiver.{receiverState, fieldTaken, trialAnswer, tried, stepOf, pushing, pushOf, Moved}
 use Rattle.sacch_receiver.specs.Stored.{tries, windowOf, decodeRows}
 use Rattle.sacch_receiver.specs.declared.SacchReceiver.{SacchReceiver}
 use Rattle.sacch.specs.Calls.{Push, Fields, no-fields, pushed, refused-push, isRefused, pushedBy, answers}
@@ -38,7 +38,7 @@ tried-taken r dvcc =
 step-taken : (r : SacchReceiver) (field dvcc : ℕ) → isRefused (stepOf r field dvcc .answer) ≡ false
 unfolding stepOf
 step-taken r field dvcc =
-    either (λ (m : Moved). isRefused (m .answer) ≡ false) (ltb (fieldStored r field .received) 12) _ _ refl (tried-taken _ dvcc)
+    either (λ (m : Moved). isRefused (m .answer) ≡ false) (ltb (fieldTaken r field .received) 12) _ _ refl (tried-taken _ dvcc)
 
 -- ---- one push
 -- a refused one leaves the receiver

@@ -17,7 +17,8 @@ use Rattle.sacch_interleaver.specs.Diagonal.{bitOf, rowOf}
 use Rattle.sacch_interleaver.proofs.Diagonal.{diagonal, undone, row-of, twelve-same}
 use Rattle.sacch_interleaver.proofs.Rings.{after, after-start, after-then}
 use Rattle.sacch_decoder.specs.declared.SacchWord.{SacchWord}
-use Rattle.sacch_receiver.specs.Receiver.{fieldStored, rowStored, locked, trialAnswer, trialLock, tried, stepOf, Moved}
+use Rattle.sacch_interleaver.specs.Deinterleaver.{fieldStored}
+use Rattle.sacch_receiver.specs.Receiver.{withFields, fieldTaken, rowStored, locked, trialAnswer, trialLock, tried, stepOf, Moved}
 use Rattle.sacch_receiver.specs.Stored.{tries, windowOf, decodeRows}
 use Rattle.sacch_receiver.specs.declared.SacchReceiver.{SacchReceiver}
 use Rattle.sacch.proofs.Fitting.{Fitting, step-fits, either}
@@ -33,19 +34,19 @@ tried-locks r dvcc =
 
 -- the receiver with a field, and with the row that it completes
 unfoldable pub rowed : SacchReceiver → ℕ → SacchReceiver
-rowed r field = rowStored (fieldStored r field) (rowOf (fieldStored r field .fields) (fieldStored r field .«field_cursor»))
+rowed r field = rowStored (fieldTaken r field) (rowOf (fieldTaken r field .fields) (fieldTaken r field .«field_cursor»))
 
 -- what a step makes of the fields does not depend on what follows it
 record FieldStored (r : SacchReceiver) (field : ℕ) (r′ : SacchReceiver) : Type 0 where
-  fields : r′ .fields ≡ fieldStored r field .fields
-  cursor : r′ .«field_cursor» ≡ fieldStored r field .«field_cursor»
-  received : r′ .received ≡ fieldStored r field .received
+  fields : r′ .fields ≡ fieldTaken r field .fields
+  cursor : r′ .«field_cursor» ≡ fieldTaken r field .«field_cursor»
+  received : r′ .received ≡ fieldTaken r field .received
 
 step-stores : (r : SacchReceiver) (field dvcc : ℕ) → FieldStored r field (stepOf r field dvcc .receiver)
 unfolding stepOf rowStored locked rowed
 step-stores r field dvcc =
     let e = tried-locks (rowed r field) dvcc in
-    either (λ (m : Moved). FieldStored r field (m .receiver)) (ltb (fieldStored r field .received) 12) _ _
+    either (λ (m : Moved). FieldStored r field (m .receiver)) (ltb (fieldTaken r field .received) 12) _ _
     (record { fields = refl; cursor = refl; received = refl })
     (record {
       fields = ap (λ (s : SacchReceiver). s .fields) e;
@@ -55,17 +56,17 @@ step-stores r field dvcc =
 
 -- with eleven fields before it, a field completes a row
 step-row : (r : SacchReceiver) (field dvcc : ℕ) → 11 ≤ r .received → stepOf r field dvcc ≡ tried (rowed r field) dvcc
-unfolding stepOf fieldStored rowed
+unfolding stepOf withFields fieldStored rowed
 step-row r field dvcc h =
-    ap (λ (b : Bool). cond b (record { answer = pending; receiver = fieldStored r field }) (tried (rowed r field) dvcc))
-    (le-ltb (fieldStored r field .received) 12 (omega arith))
+    ap (λ (b : Bool). cond b (record { answer = pending; receiver = fieldTaken r field }) (tried (rowed r field) dvcc))
+    (le-ltb (fieldTaken r field .received) 12 (omega arith))
 
 -- with fewer it waits
-pub step-waits : (r : SacchReceiver) (field dvcc : ℕ) → r .received < 11 → stepOf r field dvcc ≡ record { answer = pending; receiver = fieldStored r field }
-unfolding stepOf fieldStored rowed
+pub step-waits : (r : SacchReceiver) (field dvcc : ℕ) → r .received < 11 → stepOf r field dvcc ≡ record { answer = pending; receiver = fieldTaken r field }
+unfolding stepOf withFields fieldStored rowed
 step-waits r field dvcc h =
-    ap (λ (b : Bool). cond b (record { answer = pending; receiver = fieldStored r field }) (tried (rowed r field) dvcc))
-    (lt-ltb (fieldStored r field .received) 12 (omega arith))
+    ap (λ (b : Bool). cond b (record { answer = pending; receiver = fieldTaken r field }) (tried (rowed r field) dvcc))
+    (lt-ltb (fieldTaken r field .received) 12 (omega arith))
 
 -- and so it does with fewer than eleven rows
 pub tried-waits : (r : SacchReceiver) (dvcc : ℕ) → r .available < 11 → tried r dvcc ≡ record { answer = pending; receiver = r }
@@ -107,7 +108,7 @@ module _ (dvcc : ℕ) {r : SacchReceiver} (fields : ℕ → ℕ) (fit : Fitting 
   at-fits (suc i) = step-fits (fields i) dvcc (at-fits i) (below i)
 
   pub at-received : (i : ℕ) → at i .received ≡ min 12 (r .received + i)
-  unfolding fieldStored
+  unfolding withFields fieldStored
   at-received zero = omega (arith, fit .fit .received)
   at-received (suc i) = let before : at i .received ≡ min 12 (r .received + i) = at-received i in step-stores (at i) (fields i) dvcc .received ∙ omega arith
 
@@ -116,8 +117,8 @@ module _ (dvcc : ℕ) {r : SacchReceiver} (fields : ℕ → ℕ) (fit : Fitting 
   seen = after 12 (r .fields) (r .«field_cursor») fields
 
   stored-holds : (i : ℕ) → Holds 12 (at i .fields) (at i .«field_cursor») seen i
-      → Holds 12 (fieldStored (at i) (fields i) .fields) (fieldStored (at i) (fields i) .«field_cursor») seen (suc i)
-  unfolding fieldStored
+      → Holds 12 (fieldTaken (at i) (fields i) .fields) (fieldTaken (at i) (fields i) .«field_cursor») seen (suc i)
+  unfolding withFields fieldStored
   stored-holds i h =
       holds-next 12 (at i .fields) (at i .«field_cursor») seen i (fields i) (at-fits i .fields-length) (at-fits i .fit .field-cursor)
       (after-then 12 (r .fields) (r .«field_cursor») fields i (i + 12) refl) h
@@ -127,7 +128,7 @@ module _ (dvcc : ℕ) {r : SacchReceiver} (fields : ℕ → ℕ) (fit : Fitting 
   at-holds (suc i) = let s = step-stores (at i) (fields i) dvcc in rw (s .fields, s .cursor) (stored-holds i (at-holds i))
 
   -- ---- rows
-  at-row : (t : ℕ) → rowOf (fieldStored (at (11 + t)) (fields (11 + t)) .fields) (fieldStored (at (11 + t)) (fields (11 + t)) .«field_cursor») ≡ completed fields t
+  at-row : (t : ℕ) → rowOf (fieldTaken (at (11 + t)) (fields (11 + t)) .fields) (fieldTaken (at (11 + t)) (fields (11 + t)) .«field_cursor») ≡ completed fields t
   at-row t =
       row-of _ _ seen (suc (11 + t)) (stored-holds (11 + t) (at-holds (11 + t)))
       ∙ twelve-same (λ j. bitOf (seen (suc (11 + t) + j)) j) (λ j. bitOf (fields (t + j)) j)
@@ -157,7 +158,7 @@ module _ (dvcc : ℕ) {r : SacchReceiver} (fields : ℕ → ℕ) (fit : Fitting 
   rowsSeen = after 11 (late 0 .rows) (late 0 .«row_cursor») (completed fields)
 
   full-holds : (t : ℕ) → Holds 11 (late t .rows) (late t .«row_cursor») rowsSeen t → Holds 11 (full t .rows) (full t .«row_cursor») rowsSeen (suc t)
-  unfolding rowed rowStored fieldStored
+  unfolding rowed rowStored withFields fieldStored
   full-holds t h =
       holds-next 11 (late t .rows) (late t .«row_cursor») rowsSeen t _ (late-fits t .rows-length) (late-fits t .fit .row-cursor)
       (after-then 11 (late 0 .rows) (late 0 .«row_cursor») (completed fields) t (t + 11) refl ∙ sym (at-row t)) h
@@ -168,13 +169,13 @@ module _ (dvcc : ℕ) {r : SacchReceiver} (fields : ℕ → ℕ) (fit : Fitting 
   late-holds (suc t) = rw (late-next t) (full-holds t (late-holds t))
 
   pub late-available : (t : ℕ) → late t .available ≡ min 11 (late 0 .available + t)
-  unfolding locked rowed rowStored fieldStored
+  unfolding locked rowed rowStored withFields fieldStored
   late-available zero = omega (arith, late-fits 0 .fit .available)
   late-available (suc t) =
       let before : late t .available ≡ min 11 (late 0 .available + t) = late-available t in ap (λ (s : SacchReceiver). s .available) (late-next t) ∙ omega arith
 
   late-phase : (t : ℕ) → late t .phase ≡ (late 0 .phase + t) % 11
-  unfolding locked rowed rowStored fieldStored
+  unfolding locked rowed rowStored withFields fieldStored
   late-phase zero = omega (arith, late-fits 0 .fit .phase)
   late-phase (suc t) =
       let before : late t .phase ≡ (late 0 .phase + t) % 11 = late-phase t in ap (λ (s : SacchReceiver). s .phase) (late-next t) ∙ omega arith
@@ -194,15 +195,15 @@ module _ (dvcc : ℕ) {r : SacchReceiver} (fields : ℕ → ℕ) (fit : Fitting 
       ∙ after-then 11 (late 0 .rows) (late 0 .«row_cursor») (completed fields) (s + q) (suc (10 + s) + q) (omega arith))
 
   phase-at : (s : ℕ) → full (10 + s) .phase ≡ (late 0 .phase + s) % 11
-  unfolding rowed rowStored fieldStored
+  unfolding rowed rowStored withFields fieldStored
   phase-at s = let e : late (10 + s) .phase ≡ (late 0 .phase + (10 + s)) % 11 = late-phase (10 + s) in omega arith
 
   lock-at : (s : ℕ) → full (10 + s) .lock ≡ late (10 + s) .lock
-  unfolding rowed rowStored fieldStored
+  unfolding rowed rowStored withFields fieldStored
   lock-at s = refl
 
   enough : (s : ℕ) → 11 ≤ full (10 + s) .available
-  unfolding rowed rowStored fieldStored
+  unfolding rowed rowStored withFields fieldStored
   enough s = let e : late (10 + s) .available ≡ min 11 (late 0 .available + (10 + s)) = late-available (10 + s) in omega arith
 
   abbrev tries-at : ℕ → Bool

@@ -11,7 +11,8 @@ use Rattle.bits.proofs.Listed.{listed-same}
 use Rattle.sacch_interleaver.specs.Diagonal.{bitOf}
 use Rattle.sacch_interleaver.proofs.Diagonal.{twelve-same}
 use Rattle.sacch_decoder.specs.declared.SacchWord.{SacchWord}
-use Rattle.sacch_receiver.specs.Receiver.{freshReceiver, receiverFits, fieldStored, rowStored, locked, trialAnswer, tried, stepOf, Moved}
+use Rattle.sacch_interleaver.specs.Deinterleaver.{deinterleaverFits, fieldStored}
+use Rattle.sacch_receiver.specs.Receiver.{freshReceiver, receiverFits, withFields, fieldTaken, rowStored, locked, trialAnswer, tried, stepOf, Moved}
 use Rattle.sacch_receiver.specs.Stored.{decodeRows}
 use Rattle.sacch_receiver.specs.declared.SacchReceiver.{SacchReceiver}
 use Rattle.sacch_receiver.specs.declared.stored.Lock.the-variants.{Unlocked}
@@ -25,7 +26,7 @@ use Rattle.sacch.proofs.ReceiverRun.{rowed, step-waits, tried-waits, re
 use Rattle.sacch.proofs.Pushes.{answers-at, fields-below}
 
 fresh-fits : Fitting freshReceiver
-unfolding freshReceiver receiverFits allBelow
+unfolding freshReceiver receiverFits deinterleaverFits allBelow
 fresh-fits = record { fit = fit-of freshReceiver refl; fields-length = refl; rows-length = refl }
 
 module _ (dvcc : ℕ) {pushes : List Push} {fields : List ℕ} (heard : Fields dvcc freshReceiver pushes fields) where
@@ -47,28 +48,28 @@ module _ (dvcc : ℕ) {pushes : List Push} {fields : List ℕ} (heard : Fields d
       ap (λ (k : ℕ). getD (answers freshReceiver pushes) k pending) here ∙ answers-at dvcc heard fresh-fits stream (λ k hk. refl) i (omega arith)
 
   -- ---- before the twelfth field: no row
-  early-step : (i : ℕ) → i < 11 → stepOf (at i) (stream i) dvcc ≡ record { answer = pending; receiver = fieldStored (at i) (stream i) }
+  early-step : (i : ℕ) → i < 11 → stepOf (at i) (stream i) dvcc ≡ record { answer = pending; receiver = fieldTaken (at i) (stream i) }
   unfolding freshReceiver
   early-step i h = let r : at i .received ≡ min 12 (freshReceiver .received + i) = at-received dvcc stream fresh-fits below i in step-waits (at i) (stream i) dvcc (omega arith)
 
   early : (i : ℕ) → i ≤ 11 → (at i .available ≡ 0) × (at i .lock ≡ Unlocked)
-  unfolding freshReceiver fieldStored
+  unfolding freshReceiver withFields fieldStored
   early zero h = (refl, refl)
   early (suc i) h =
-      let s : at (suc i) ≡ fieldStored (at i) (stream i) = ap (λ (m : Moved). m .receiver) (early-step i (omega arith)) in
+      let s : at (suc i) ≡ fieldTaken (at i) (stream i) = ap (λ (m : Moved). m .receiver) (early-step i (omega arith)) in
       let e = early i (omega arith) in
       (ap (λ (r : SacchReceiver). r .available) s ∙ e .0, ap (λ (r : SacchReceiver). r .lock) s ∙ e .1)
 
   -- ---- before the 22nd: fewer than eleven
   few : (t : ℕ) → t < 10 → tried (full t) dvcc ≡ record { answer = pending; receiver = full t }
-  unfolding rowed rowStored fieldStored
+  unfolding rowed rowStored withFields fieldStored
   few t h =
       let a : at (11 + t) .available ≡ min 11 (at (11 + 0) .available + t) = late-available dvcc stream fresh-fits below t in
       let z : at 11 .available ≡ 0 = early 11 (omega arith) .0 in
       tried-waits (full t) dvcc (omega arith)
 
   still-unlocked : (t : ℕ) → t ≤ 10 → at (11 + t) .lock ≡ Unlocked
-  unfolding rowed rowStored fieldStored locked
+  unfolding rowed rowStored withFields fieldStored locked
   still-unlocked zero h = early 11 (omega arith) .1
   still-unlocked (suc t) h =
       ap (λ (r : SacchReceiver). r .lock) (late-next dvcc stream fresh-fits below t)

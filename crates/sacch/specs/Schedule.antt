@@ -3,21 +3,16 @@
 use mathlib.Core.Path.{_≡_}
 use mathlib.Core.List.{List}
 use Prim.Native.Nat.{ℕ, _+_, _-_, _≤_, _<_}
-use lib.ListN.{getD, length}
-use Rattle.bits.specs.Numbers.{packed}
+use lib.ListN.{length}
 use Rattle.bits.specs.Places.{listed}
 use Rattle.bits.specs.Refusals.{Answer, accepted, pending, rejected}
 use Rattle.bits.specs.declared.Refusal.{Refusal}
-use Rattle.sacch_interleaver.specs.Diagonal.{bitOf}
+use Rattle.sacch_interleaver.specs.Deinterleaver.{rowHeard}
 use Rattle.sacch_decoder.specs.declared.SacchWord.{SacchWord}
 use Rattle.sacch_receiver.specs.Receiver.{freshReceiver, trialAnswer}
 use Rattle.sacch_receiver.specs.Stored.{decodeRows}
 use Rattle.sacch.specs.Calls.{Push, Fields}
 use Rattle.sacch.specs.Listening.{answer}
-
--- the row that field n completes: its bit j is bit j of the field 11 - j before
-abbrev pub rowHeard : List ℕ → ℕ → ℕ
-rowHeard fields n = packed (listed 12 (λ (j : ℕ). bitOf (getD fields (n - 12 + j) 0) j))
 
 -- a trial with field n: what the rows of the fields n - 10 to n decode to
 abbrev pub trialHeard : ℕ → List ℕ → ℕ → Answer SacchWord

@@ -1,6 +1,6 @@
 -- What an accepted state says, and that it is kept. Assumes nothing.
 use mathlib.Core.Path.{_≡_, refl, sym, subst, _∙_}
-use mathlib.Core.Bool.{true}
+use mathlib.Core.Bool.{true, _&&_}
 use Prim.Native.Nat.{ℕ, _+_, _<_}
 use native.Mathlib.Nat.{mod-lt}
 use native.Mathlib.Omega.{arith}
@@ -10,9 +10,9 @@ use Rattle.bits.specs.Arguments.{firstRefusal}
 use Rattle.bits.specs.declared.arguments.Arguments.{Arguments}
 use Rattle.bits.specs.declared.arguments.Arguments.the-variants.{Passed}
 use Rattle.bits.specs.declared.Refusal.the-variants.{State}
-use Rattle.bits.proofs.Below.{cond-true}
 use Rattle.bits.proofs.Refusing.{test-passed, passed-first}
 use Rattle.sacch_interleaver.specs.Diagonal.{allTwelve}
+use Rattle.sacch_interleaver.proofs.Deinterleaving.{and-parts}
 use Rattle.bits.proofs.Below.{below-set}
 use Rattle.sacch_encoder.specs.Encoder.{encoderFits, encoderState, encoded}
 use Rattle.sacch_encoder.specs.declared.SacchEncoder.{SacchEncoder}
@@ -26,9 +26,9 @@ pub record Fit (e : SacchEncoder) : Type 0 where
 pub fit-of : (e : SacchEncoder) → encoderFits e ≡ true → Fit e
 unfolding encoderFits
 fit-of e t =
-    let m = cond-true (ltb (e .memory) 32) _ t in
-    let c = cond-true (ltb (e .cursor) 12) _ (m .1) in
-    record { memory = ltb-true (e .memory) 32 (m .0); cursor = ltb-true (e .cursor) 12 (c .0); rows = c .1 }
+    let all = and-parts (ltb (e .memory) 32 && ltb (e .cursor) 12) (allTwelve (e .rows)) t in
+    let numbers = and-parts (ltb (e .memory) 32) (ltb (e .cursor) 12) (all .0) in
+    record { memory = ltb-true (e .memory) 32 (numbers .0); cursor = ltb-true (e .cursor) 12 (numbers .1); rows = all .1 }
 
 pub fits : (e : SacchEncoder) → Fit e → encoderFits e ≡ true
 unfolding encoderFits

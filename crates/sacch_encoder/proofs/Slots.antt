@@ -11,8 +11,9 @@ use Rattle.bits.specs.Places.{listed}
 use Rattle.bits.proofs.Filled.{set-more}
 use Rattle.bits.proofs.Listed.{is-listed}
 use Rattle.bits.proofs.Ring.{Holds, holds-next}
-use Rattle.sacch_interleaver.specs.Diagonal.{fieldOf}
+use Rattle.sacch_interleaver.specs.Diagonal.{fieldOf, laidOut}
 use Rattle.sacch_interleaver.proofs.Diagonal.{diagonal, field-of}
+use Rattle.sacch_interleaver.proofs.LaidOut.{laid-length, laid-at}
 use Rattle.sacch_interleaver.proofs.Rings.{after, after-start, after-then}
 use Rattle.sacch_encoder.specs.Encoder.{encoded, encodedAll, fieldsFrom, fieldNow}
 use Rattle.sacch_encoder.specs.Words.{codedRow, memoryAfter}
@@ -73,18 +74,18 @@ pub record Slots (start : SacchEncoder) (f : ℕ → ℕ) (e : SacchEncoder) (ru
   pub right : (i : ℕ) → i < 12 + k → getD run i 0 ≡ rowsSent start f i
   pub made : fieldsFrom start (listed k f) ≡ listed k (λ i. diagonal (rowsSent start f) (suc i))
 
-pub slots-none : {start : SacchEncoder} {f : ℕ → ℕ} {run : List ℕ} → start .memory < 32 → start .cursor < 12 → length (start .rows) ≡ 12 → length run ≡ 23
-    → ((k : ℕ) → k < 12 → getD run k 0 ≡ getD (start .rows) ((start .cursor + k) % 12) 0) → Slots start f start run 0
+pub slots-none : {start : SacchEncoder} {f : ℕ → ℕ} {run : List ℕ} → start .memory < 32 → start .cursor < 12 → length (start .rows) ≡ 12
+    → run ≡ laidOut (start .rows) (start .cursor) → Slots start f start run 0
 unfolding listed encodedAll fieldsFrom
-slots-none {start} {f} m c l size laid =
+slots-none {start} {f} {run} m c l laid =
     let first : Holds 12 (start .rows) (start .cursor) (rowsSent start f) 0 = after-start 12 (start .rows) (start .cursor) (λ i. codedRow (encodedAll start (listed i f) .memory) (f i)) in
     record {
       low = omega arith;
-      size = size;
+      size = ap length laid ∙ laid-length (start .rows) (start .cursor);
       memory = m;
       held = record { size = l; cursor = c; holds = first };
       so-far = refl;
-      right = λ i h. laid i (omega arith) ∙ first i (omega arith) ∙ ap (rowsSent start f) (zero-add i);
+      right = λ i h. ap (λ (x : List ℕ). getD x i 0) laid ∙ laid-at (start .rows) (start .cursor) i (omega arith) ∙ first i (omega arith) ∙ ap (rowsSent start f) (zero-add i);
       made = refl;
     }
 

@@ -1,5 +1,5 @@
 -- The encoder's calls on values.
-use mathlib.Core.Bool.{Bool, false, cond}
+use mathlib.Core.Bool.{Bool, cond, _&&_}
 use mathlib.Core.List.{List, [], _∷_}
 use Prim.Native.Nat.{ℕ, _+_, _%_, _^_}
 use lib.Dec.{ltb}
@@ -23,7 +23,7 @@ freshEncoder = record { memory = 0; rows = replicate 12 0; cursor = 0 }
 
 -- document 01, 'Numbers from the state': the states that refusal 8 lets pass
 unfoldable pub encoderFits : SacchEncoder → Bool
-encoderFits e = cond (ltb (e .memory) 32) (cond (ltb (e .cursor) 12) (allTwelve (e .rows)) false) false
+encoderFits e = ltb (e .memory) 32 && ltb (e .cursor) 12 && allTwelve (e .rows)
 
 abbrev pub encoderState : SacchEncoder → Arguments
 encoderState e = cond (encoderFits e) Passed (Refused State)

@@ -119,7 +119,7 @@ impl SacchEncoder {
         }
     }
 
-    // The fields of a word's eleven slots: all rows first, beside the ring in the order of their slots, so that no store is read at once.
+    // The fields of a word's eleven slots. All rows are made first, in the order of their slots, and stand beside the ring: a field that read the ring would wait for the row just stored.
     fn with_word(mut self, word: &[u8]) -> EncodedWord
         requires { ⌜ (self .memory < 32) × (self .cursor < 12) × (length (now word) ≡ 66) × (allBinary (now word) ≡ true) ⌝ }
         ensures { λ r. ⌜ (wroteAnswer (r .outcome) ≡ accepted tt) × (r .encoder ≡ encodedAll self (sixesOf (bits (now (word .entry))))) × (r .fields ≡ fieldsFrom self (sixesOf (bits (now (word .entry))))) ⌝ }

@@ -2,3 +2,5 @@
 pub mod Rings
 pub mod Diagonal
 pub mod Weighing
+pub mod LaidOut
+pub mod Deinterleaving

@@ -1,2 +1,3 @@
--- The diagonal interleaver of SACCH.
+-- The diagonal interleaver of SACCH, and the deinterleaver's calls.
 pub mod Diagonal
+pub mod Deinterleaver

@@ -1,10 +1,39 @@
-// The diagonal interleaver of SACCH (IS-54-B 2.7.3.1.2.1) over packed rows and fields. The contracts cite specs/.
+// The diagonal interleaver of SACCH (IS-54-B 2.7.3.1.2.1) over packed rows and fields, and its deinterleaver. The contracts cite specs/.
 // Ported from 136-bts, sacch.rs, and changed (see NOTICE).
+mod deinterleaver;
+
+use bits::Refusal;
 use bits::both;
+pub use deinterleaver::one_more;
+pub use deinterleaver::row_found;
+pub use deinterleaver::with_field;
 ghost use mathlib.Core.Path.{_≡_};
-ghost use Prim.Native.Nat.{ℕ, _+_, _%_, _^_, _<_, _≤_};
-ghost use lib.ListN.{getD, length};
-ghost use Rattle.sacch_interleaver.specs.Diagonal.{allTwelve, fieldOf, rowOf};
+ghost use Prim.Native.Nat.{_+_, _%_, _^_, _<_, _≤_};
+ghost use lib.ListN.{length};
+ghost use Rattle.sacch_interleaver.specs.Diagonal.{allTwelve, fieldOf, laidOut, rowOf};
+
+// The last twelve fields.
+#[repr(C)]
+pub struct SacchDeinterleaver {
+    pub fields: [u16; 12],
+    // The place of the oldest field.
+    pub cursor: usize,
+    // How many fields were received, up to 12.
+    pub received: usize,
+}
+
+// What a push answers: the row that the newest of twelve fields completes, or nothing yet.
+pub enum RowOutcome {
+    Pending,
+    Row(u16),
+    Refused(Refusal),
+}
+
+// An answer, with the deinterleaver after it.
+pub struct PushedRow {
+    pub outcome: RowOutcome,
+    pub deinterleaver: SacchDeinterleaver,
+}
 
 // The weight of a bit that is `shift` places above `place`, round in twelve.
 fn bit_value(place: usize, shift: usize) -> u16
@@ -18,7 +47,7 @@ fn bit_value(place: usize, shift: usize) -> u16
 // A ring laid out from its oldest on, with room for the numbers of eleven slots more.
 pub fn aged(ring: &[u16], next: usize) -> [u16; 23]
     requires { ⌜ (length (now ring) ≡ 12) × (next < 12) ⌝ }
-    ensures { λ r. ⌜ (length r ≡ 23) × ((k : ℕ) → k < 12 → getD r k 0 ≡ getD (now (ring .entry)) ((next + k) % 12) 0) ⌝ }
+    ensures { λ r. ⌜ r ≡ laidOut (now (ring .entry)) next ⌝ }
 {
     let mut run = [0u16; 23];
     for i in 0..12 {

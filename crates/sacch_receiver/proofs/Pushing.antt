@@ -1,17 +1,22 @@
--- A push by what was found: the row of twelve fields, and what eleven rows decode to. Assumes nothing.
+-- A push by what was found: the row that the deinterleaver answers, and what eleven rows decode to. Assumes nothing.
 use mathlib.Core.Path.{_≡_, refl, sym, ap, ap₂, _∙_}
+use mathlib.Core.Logic.{_≢_, _⊎_, inl, inr}
 use mathlib.Core.Bool.{Bool, true, false, cond}
 use Prim.Native.Nat.{ℕ, _≤_}
 use native.Mathlib.Omega.{arith}
+use denote.Enum.Declared.{tagOf}
 use lib.Dec.{ltb}
 use borrow.Author.Tests.{le-ltb}
-use Rattle.bits.specs.Refusals.{Answer, pending}
+use Rattle.bits.specs.Refusals.{Answer, accepted, pending}
+use Rattle.sacch_interleaver.specs.Deinterleaver.{fieldStored, rowAnswer, rowFound}
 use Rattle.sacch_interleaver.specs.Diagonal.{rowOf}
+use Rattle.sacch_interleaver.specs.declared.RowOutcome.{RowOutcome}
+use Rattle.sacch_interleaver.specs.declared.RowOutcome.the-variants as outcome
+use Rattle.sacch_interleaver.specs.declared.SacchDeinterleaver.{SacchDeinterleaver}
+use Rattle.sacch_interleaver.proofs.RowOutcome.{the-type}
 use Rattle.sacch_decoder.specs.declared.SacchWord.{SacchWord}
-use Rattle.sacch_receiver.specs.Receiver.{Moved, fieldStored, locked, pushOf, pushWordOf, rowFound, rowStored, stepOf, trialAnswer, trialLock, tried, wordOnly}
+use Rattle.sacch_receiver.specs.Receiver.{Moved, deinterleaverOf, fieldTaken, locked, pushOf, pushWordOf, rowStored, stepOf, trialAnswer, trialLock, tried, withFields, wordOnly}
 use Rattle.sacch_receiver.specs.Stored.{decodeRows, tries, windowOf}
-use Rattle.sacch_receiver.specs.declared.Row.{Row}
-use Rattle.sacch_receiver.specs.declared.Row.the-variants.{Missing, Complete}
 use Rattle.sacch_receiver.specs.declared.SacchReceiver.{SacchReceiver}
 
 -- ---- a trial
@@ -23,27 +28,52 @@ tried-now r dvcc h t e a b =
     rw (le-ltb (r .available) 11 h, t, ← e) (ap₂ {C = Moved} (λ (x : Answer SacchWord) (q : SacchReceiver). record { answer = x; receiver = q }) a b)
 
 -- ---- a step
-missing : (b : Bool) (y : ℕ) → cond {A = Row} b Missing (Complete y) ≡ Missing → b ≡ true
-missing true y e = refl
-missing false y e = let z : _≡_ {A = ℕ} 0 1 = cc in absurd (omega arith)
+-- an outcome that is Pending or a refusal is no row
+pub not-row : (o : RowOutcome) → (tagOf the-type o ≡ 0) ⊎ (tagOf the-type o ≡ 2) → (row : ℕ) → rowAnswer o ≢ accepted row
+not-row outcome.Pending t row e = let z : _≡_ {A = ℕ} 0 1 = cc in omega arith
+not-row (outcome.Row x) (inl t) row e = omega arith
+not-row (outcome.Row x) (inr t) row e = omega arith
+not-row (outcome.Refused why) t row e = let z : _≡_ {A = ℕ} 0 1 = cc in omega arith
 
-complete : (b : Bool) (y z : ℕ) → cond {A = Row} b Missing (Complete y) ≡ Complete z → (b ≡ false) × (y ≡ z)
-complete true y z e = let z : _≡_ {A = ℕ} 0 1 = cc in absurd (omega arith)
-complete false y z e = (refl, cc)
+-- what the deinterleaver answers: no row, or one
+module _ (d : SacchDeinterleaver) {answer : Answer ℕ} (told : answer ≡ rowFound d) where
+  no-row : ((row : ℕ) → answer ≢ accepted row) → ltb (d .received) 12 ≡ true
+  unfolding rowFound
+  no-row none = by (ltb (d .received) 12) told
+    where
+      by : (b : Bool) → answer ≡ cond b pending (accepted (rowOf (d .fields) (d .cursor))) → b ≡ true
+      by true e = refl
+      by false e = absurd (none _ e)
 
-module _ (r : SacchReceiver) (field dvcc : ℕ) {stored : SacchReceiver} {found : Row} (kept : stored ≡ fieldStored r field) (told : found ≡ rowFound stored) where
-  pub step-missing : found ≡ Missing → _≡_ {A = Moved} (record { answer = pending; receiver = stored }) (stepOf r field dvcc)
-  unfolding stepOf rowFound
-  step-missing e =
-      let t : ltb (fieldStored r field .received) 12 ≡ true = missing (ltb (fieldStored r field .received) 12) _ (ap rowFound (sym kept) ∙ sym told ∙ e) in
-      rw t (ap {B = Moved} (λ (q : SacchReceiver). record { answer = pending; receiver = q }) kept)
+  a-row : (row : ℕ) → answer ≡ accepted row → (ltb (d .received) 12 ≡ false) × (rowOf (d .fields) (d .cursor) ≡ row)
+  unfolding rowFound
+  a-row row f = by (ltb (d .received) 12) told
+    where
+      by : (b : Bool) → answer ≡ cond b pending (accepted (rowOf (d .fields) (d .cursor))) → (b ≡ false) × (rowOf (d .fields) (d .cursor) ≡ row)
+      by true e = let z : _≡_ {A = ℕ} 0 1 = cc in absurd (omega arith)
+      by false e = (refl, cc)
 
-  pub step-complete : {row : ℕ} {after : SacchReceiver} {m : Moved} → found ≡ Complete row → after ≡ rowStored stored row → m ≡ tried after dvcc → m ≡ stepOf r field dvcc
-  unfolding stepOf rowFound
-  step-complete {row} {after} e f g =
-      let s : SacchReceiver = fieldStored r field in
-      let t = complete (ltb (s .received) 12) (rowOf (s .fields) (s .«field_cursor»)) row (ap rowFound (sym kept) ∙ sym told ∙ e) in
-      rw (t .0) (g ∙ ap (λ (q : SacchReceiver). tried q dvcc) (f ∙ ap₂ rowStored kept (sym (t .1))))
+module _ (r : SacchReceiver) (field dvcc : ℕ) {held after : SacchDeinterleaver} {stored : SacchReceiver} {answer : Answer ℕ} (given : held ≡ deinterleaverOf r)
+    (kept : after ≡ fieldStored held field) (taken : stored ≡ withFields r after) (told : answer ≡ rowFound after) where
+  after-is : after ≡ fieldStored (deinterleaverOf r) field
+  after-is = kept ∙ ap (λ (d : SacchDeinterleaver). fieldStored d field) given
+
+  stored-is : stored ≡ fieldTaken r field
+  stored-is = taken ∙ ap (withFields r) after-is
+
+  found : answer ≡ rowFound (fieldStored (deinterleaverOf r) field)
+  found = told ∙ ap rowFound after-is
+
+  pub step-missing : ((row : ℕ) → answer ≢ accepted row) → _≡_ {A = Moved} (record { answer = pending; receiver = stored }) (stepOf r field dvcc)
+  unfolding stepOf withFields
+  step-missing none =
+      rw (no-row (fieldStored (deinterleaverOf r) field) found none) (ap {B = Moved} (λ (q : SacchReceiver). record { answer = pending; receiver = q }) stored-is)
+
+  pub step-complete : {row : ℕ} {rowed : SacchReceiver} {m : Moved} → answer ≡ accepted row → rowed ≡ rowStored stored row → m ≡ tried rowed dvcc → m ≡ stepOf r field dvcc
+  unfolding stepOf withFields
+  step-complete {row} e f g =
+      let t = a-row (fieldStored (deinterleaverOf r) field) found row e in
+      rw (t .0) (g ∙ ap (λ (q : SacchReceiver). tried q dvcc) (f ∙ ap₂ rowStored stored-is (sym (t .1))))
 
 -- ---- the wrapper
 pub word-heard : (r : SacchReceiver) (field dvcc : ℕ) {answer heard : Answer SacchWord} {after : SacchReceiver}

@@ -1,21 +1,21 @@
 -- The receiver's calls on values. Stored.antt has its lock and its rows.
-use mathlib.Core.Bool.{Bool, false, cond}
+use mathlib.Core.Bool.{Bool, true, false, cond, _&&_}
 use Prim.Native.Nat.{ℕ, _+_, _%_, min}
 use lib.Dec.{ltb}
-use lib.ListN.{set, replicate}
+use lib.ListN.{replicate, set}
 use Rattle.bits.specs.Refusals.{Answer, accepted, pending, rejected, refused}
 use Rattle.bits.specs.Arguments.{firstRefusal, belowOf}
 use Rattle.bits.specs.declared.arguments.Arguments.{Arguments}
 use Rattle.bits.specs.declared.arguments.Arguments.the-variants.{Passed, Refused}
 use Rattle.bits.specs.declared.Refusal.the-variants.{State}
+use Rattle.sacch_interleaver.specs.Deinterleaver.{deinterleaverFits, fieldStored}
 use Rattle.sacch_interleaver.specs.Diagonal.{allTwelve, rowOf}
+use Rattle.sacch_interleaver.specs.declared.SacchDeinterleaver.{SacchDeinterleaver}
 use Rattle.sacch_decoder.specs.declared.SacchWord.{SacchWord}
 use Rattle.sacch_receiver.specs.declared.SacchReceiver.{SacchReceiver}
 use Rattle.sacch_receiver.specs.Stored.{lockFits, tries, windowOf, decodeRows}
 use Rattle.sacch_receiver.specs.declared.stored.Lock.{Lock}
 use Rattle.sacch_receiver.specs.declared.stored.Lock.the-variants.{Unlocked, Locked}
-use Rattle.sacch_receiver.specs.declared.Row.{Row}
-use Rattle.sacch_receiver.specs.declared.Row.the-variants.{Missing, Complete}
 use Rattle.sacch_receiver.specs.declared.ReceiveOutcome.{ReceiveOutcome}
 use Rattle.sacch_receiver.specs.declared.ReceiveOutcome.the-variants as outcome
 use Rattle.sacch_receiver.specs.declared.Pushed.{Pushed}
@@ -36,22 +36,25 @@ freshReceiver = record {
   lock = Unlocked;
 }
 
+-- the deinterleaver that it holds
+abbrev pub deinterleaverOf : SacchReceiver → SacchDeinterleaver
+deinterleaverOf r = record { fields = r .fields; cursor = r .«field_cursor»; received = r .received }
+
 -- document 01, 'Numbers from the state': the states that refusal 8 lets pass
 unfoldable pub receiverFits : SacchReceiver → Bool
 receiverFits r =
-    cond (ltb (r .«field_cursor») 12) (cond (ltb (r .received) 13) (cond (ltb (r .«row_cursor») 11) (cond (ltb (r .available) 12)
-    (cond (ltb (r .phase) 11) (cond (lockFits (r .lock)) (cond (allTwelve (r .fields)) (allTwelve (r .rows)) false) false) false) false) false) false) false
+    deinterleaverFits (deinterleaverOf r) && ltb (r .«row_cursor») 11 && ltb (r .available) 12 && ltb (r .phase) 11 && lockFits (r .lock) && allTwelve (r .rows)
 
 abbrev pub receiverState : SacchReceiver → Arguments
 receiverState r = cond (receiverFits r) Passed (Refused State)
 
 -- ---- one field
--- it takes the place of the oldest
-unfoldable pub fieldStored : SacchReceiver → ℕ → SacchReceiver
-fieldStored r field = record {
-  fields = set (r .fields) (r .«field_cursor») field;
-  «field_cursor» = (r .«field_cursor» + 1) % 12;
-  received = min 12 (r .received + 1);
+-- the receiver with another deinterleaver
+unfoldable pub withFields : SacchReceiver → SacchDeinterleaver → SacchReceiver
+withFields r held = record {
+  fields = held .fields;
+  «field_cursor» = held .cursor;
+  received = held .received;
   rows = r .rows;
   «row_cursor» = r .«row_cursor»;
   available = r .available;
@@ -59,9 +62,9 @@ fieldStored r field = record {
   lock = r .lock;
 }
 
--- what the stored fields give: with twelve received, the row that the newest completes
-unfoldable pub rowFound : SacchReceiver → Row
-rowFound r = cond (ltb (r .received) 12) Missing (Complete (rowOf (r .fields) (r .«field_cursor»)))
+-- its deinterleaver takes the field
+abbrev pub fieldTaken : SacchReceiver → ℕ → SacchReceiver
+fieldTaken r field = withFields r (fieldStored (deinterleaverOf r) field)
 
 -- the row of twelve fields takes the place of the oldest row, and the phase goes on
 unfoldable pub rowStored : SacchReceiver → ℕ → SacchReceiver
@@ -89,19 +92,22 @@ locked r lock = record {
 }
 
 -- ---- a trial
--- a refusal of rows already stored is a rejection
+-- a refusal of rows already stored is a rejection; any other answer stands
 abbrev pub trialAnswer : Answer SacchWord → Answer SacchWord
 trialAnswer (accepted word) = accepted word
 trialAnswer pending = pending
 trialAnswer (rejected why) = rejected why
 trialAnswer (refused why) = rejected why
 
+abbrev pub isAccepted : Answer SacchWord → Bool
+isAccepted (accepted word) = true
+isAccepted pending = false
+isAccepted (rejected why) = false
+isAccepted (refused why) = false
+
 -- a word sets the lock, anything else drops it
 abbrev pub trialLock : Answer SacchWord → ℕ → Lock
-trialLock (accepted word) phase = Locked phase
-trialLock pending phase = Unlocked
-trialLock (rejected why) phase = Unlocked
-trialLock (refused why) phase = Unlocked
+trialLock answer phase = cond (isAccepted answer) (Locked phase) Unlocked
 
 -- ---- the calls: what they answer to document 01, and the receiver after them
 pub record Moved : Type 0 where
@@ -117,7 +123,7 @@ outcomeAnswer (outcome.Refused why) = refused why
 abbrev pub moved : Pushed → Moved
 moved p = record { answer = outcomeAnswer (p .outcome); receiver = p .receiver }
 
--- The rows are tried where eleven are there and the lock lets their phase.
+-- With eleven rows, and at a phase that the lock allows, the rows are tried.
 unfoldable pub tried : SacchReceiver → ℕ → Moved
 tried r dvcc =
     cond (ltb (r .available) 11) (record { answer = pending; receiver = r })
@@ -131,8 +137,8 @@ tried r dvcc =
 -- a field of twelve bits: with twelve received it completes a row, which is stored and tried
 unfoldable pub stepOf : SacchReceiver → ℕ → ℕ → Moved
 stepOf r field dvcc =
-    cond (ltb (fieldStored r field .received) 12) (record { answer = pending; receiver = fieldStored r field })
-    (tried (rowStored (fieldStored r field) (rowOf (fieldStored r field .fields) (fieldStored r field .«field_cursor»))) dvcc)
+    cond (ltb (fieldTaken r field .received) 12) (record { answer = pending; receiver = fieldTaken r field })
+    (tried (rowStored (fieldTaken r field) (rowOf (fieldTaken r field .fields) (fieldTaken r field .«field_cursor»))) dvcc)
 
 -- State, then Symbol where the field is above 4095; both leave the receiver
 abbrev pub pushing : Arguments → SacchReceiver → Moved → Moved

@@ -8,12 +8,6 @@ pub use crate::stored::Lock;
 use bits::Refusal;
 use sacch_decoder::SacchWord;
 
-// What twelve stored fields give: the row that the newest completes, or nothing yet.
-pub enum Row {
-    Missing,
-    Complete(u16),
-}
-
 // The last twelve fields and the last eleven rows, each packed with the first bit highest.
 pub struct SacchReceiver {
     pub fields: [u16; 12],

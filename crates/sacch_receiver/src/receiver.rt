@@ -4,26 +4,23 @@ use crate::Heard;
 use crate::Pushed;
 use crate::PushedWord;
 use crate::ReceiveOutcome;
-use crate::Row;
 use crate::SacchReceiver;
+use crate::state::deinterleaver_of;
 use crate::state::receiver_fits;
 use crate::stored::Lock;
 use crate::stored::decode_window;
 use crate::stored::lock_tries;
 use bits::Refusal;
 use sacch_decoder::Decoded;
-use sacch_interleaver::row_of;
+use sacch_interleaver::RowOutcome;
+use sacch_interleaver::SacchDeinterleaver;
+use sacch_interleaver::one_more;
+use sacch_interleaver::row_found;
+use sacch_interleaver::with_field;
 ghost use mathlib.Core.Path.{_≡_};
-ghost use Prim.Native.Nat.{_+_, _<_, min};
+ghost use Prim.Native.Nat.{_<_};
 ghost use Rattle.sacch_decoder.specs.Decoding.{decodeAnswer};
-ghost use Rattle.sacch_receiver.specs.Receiver.{fieldStored, freshReceiver, heardAnswer, locked, moved, movedWord, outcomeAnswer, pushOf, pushWordOf, rowFound, rowStored, stepOf, trialAnswer, trialLock, tried, wordOnly};
-
-// One more, up to most.
-fn one_more(n: usize, most: usize) -> usize
-    ensures { λ r. ⌜ r ≡ min most (n + 1) ⌝ }
-{
-    if n < most { n + 1 } else { most }
-}
+ghost use Rattle.sacch_receiver.specs.Receiver.{freshReceiver, heardAnswer, locked, moved, movedWord, outcomeAnswer, pushOf, pushWordOf, rowStored, stepOf, trialAnswer, trialLock, tried, withFields, wordOnly};
 
 // The word alone: Pending and rejections alike are nothing.
 fn word_only(outcome: ReceiveOutcome) -> Heard
@@ -62,30 +59,15 @@ impl SacchReceiver {
         self
     }
 
-    // The field in the place of the oldest.
-    fn with_field(mut self, field: u16) -> SacchReceiver
-        requires { ⌜ self .«field_cursor» < 12 ⌝ }
-        ensures { λ r. ⌜ r ≡ fieldStored self field ⌝ }
+    // The deinterleaver that it holds set anew.
+    fn with_fields(mut self, held: SacchDeinterleaver) -> SacchReceiver
+        ensures { λ r. ⌜ r ≡ withFields self held ⌝ }
     {
-        let at = self.field_cursor;
-        let received = one_more(self.received, 12);
-        self.fields[at] = field;
-        self.field_cursor = (at + 1) % 12;
-        self.received = received;
+        let fields = held.fields;
+        self.fields = fields;
+        self.field_cursor = held.cursor;
+        self.received = held.received;
         self
-    }
-
-    // The row that the stored fields complete, once there are twelve.
-    fn row(self) -> Row
-        requires { ⌜ self .«field_cursor» < 12 ⌝ }
-        ensures { λ r. ⌜ r ≡ rowFound self ⌝ }
-    {
-        if self.received < 12 {
-            return Row::Missing;
-        }
-        let fields = self.fields;
-        let next = self.field_cursor;
-        Row::Complete(row_of(fields, next))
     }
 
     // The row in the place of the oldest, and the phase one on.
@@ -144,7 +126,7 @@ impl SacchReceiver {
         }
     }
 
-    // The rows tried, where eleven are there and the lock lets their phase.
+    // Tries the rows where there are eleven and the lock allows this phase.
     fn trial(self, dvcc: u8) -> Pushed
         requires { ⌜ self .«row_cursor» < 11 ⌝ }
         ensures { λ r. ⌜ moved r ≡ tried self dvcc ⌝ }
@@ -173,9 +155,10 @@ impl SacchReceiver {
         requires { ⌜ (self .«field_cursor» < 12) × (self .«row_cursor» < 11) × (self .phase < 11) ⌝ }
         ensures { λ r. ⌜ moved r ≡ stepOf self field dvcc ⌝ }
     {
-        let stored = self.with_field(field);
-        let found = stored.row();
-        let Row::Complete(row) = found else {
+        let held = with_field(deinterleaver_of(self), field);
+        let stored = self.with_fields(held);
+        let found = row_found(held);
+        let RowOutcome::Row(row) = found else {
             return Pushed {
                 outcome: ReceiveOutcome::Pending,
                 receiver: stored,

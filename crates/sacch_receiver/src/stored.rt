@@ -5,7 +5,6 @@ mod window;
 
 pub use state::lock_fits;
 pub use state::lock_tries;
-pub use state::stored_fit;
 pub use window::decode_window;
 
 // Whether words begin at a known phase: then only that phase is tried. A byte holds it, so that the lock has no padding, which costs at every move.

@@ -9,6 +9,7 @@ pub mod facch;
 pub mod frames;
 pub mod listening;
 pub mod sacch;
+pub mod sacch_deinterleaver;
 pub mod sacch_encoder;
 pub mod sacch_receiver;
 pub mod search;

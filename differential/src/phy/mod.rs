@@ -108,6 +108,17 @@ pub mod sacch {
                 cursor,
             }
         }
+        pub type Fields = ([[bool; 12]; 12], usize, usize);
+        pub fn deinterleaver((history, cursor, received): Fields) -> SacchDeinterleaver {
+            SacchDeinterleaver {
+                history,
+                cursor,
+                received,
+            }
+        }
+        pub fn deinterleaver_state(d: &SacchDeinterleaver) -> Fields {
+            (d.history, d.cursor, d.received)
+        }
         pub fn encoder_state(e: &SacchEncoder) -> (u8, [[bool; 12]; 12], usize) {
             (e.state, e.history, e.cursor)
         }

@@ -3,7 +3,8 @@
 use phy::acelp_cc1::{self, DecodeError, Interleaving};
 use phy::dcch::{self, BlockError, BlockFormat, CrcMode, DecodedBlock};
 use phy::facch::{self, FacchError, FacchWord, WordHalf};
-use phy::sacch::{self, ReceiveOutcome, SacchEncoder, SacchError, SacchReceiver, SacchWord};
+use phy::sacch::{self, ReceiveOutcome, SacchDeinterleaver, SacchEncoder, SacchError};
+use phy::sacch::{SacchReceiver, SacchWord};
 use phy::speech::{self, CrcStatus, SpeechBits, SpeechCandidate, SpeechError, SpeechFrame};
 use std::error::Error;
 
@@ -72,6 +73,13 @@ fn sacch_words() -> Vec<String> {
     let six = encoder.clone().encode_bits([true; 6]);
     encoder.reset();
     told.push(format!("{six:?} {:?}", encoder.encode_bits([true; 6])));
+    let mut deinterleaver = SacchDeinterleaver::default();
+    let mut row = None;
+    for field in [[true; 12]; 12] {
+        row = deinterleaver.push(field);
+    }
+    deinterleaver.reset();
+    told.push(format!("{row:?} {:?}", deinterleaver.push([true; 12])));
     receiver.discontinuity();
     told.push(format!("{:?}", receiver.push([true; 12], 7).is_some()));
     told.push(format!(

@@ -1,9 +1,10 @@
-//! SACCH's encoder and receiver, call by call from any state: what they give, and every part of
+//! SACCH's encoder, deinterleaver and receiver, call by call from any state: what they give, and every part of
 //! the state after it.
 use crate::same_error;
 use bindings::sacch as port;
 use bindings::{Refusal, sys};
-use differential::air::{any_encoder, any_receiver, any_word, fields};
+use differential::air::{any_deinterleaver, any_encoder, any_receiver, any_word, fields};
+use differential::compare::sacch_deinterleaver::{bad_received, state as deinterleaver_of};
 use differential::compare::sacch_encoder::{bad_cursor, bad_memory, bad_row, state as encoder_of};
 use differential::compare::sacch_receiver::{Air, Part, spoilt};
 use differential::phy::sacch as rust;
@@ -48,6 +49,39 @@ fn encoders() {
         }
     }
     tally.part("500 lists from any state", 10_000);
+    tally.end();
+}
+
+#[test]
+fn deinterleavers() {
+    let mut p = Prng(0xb5e1);
+    let mut tally = Tally::new("crate, SACCH deinterleaver");
+    assert_eq!(
+        sys::Deinterleaver::from(port::SacchDeinterleaver::default()),
+        deinterleaver_of(&Default::default())
+    );
+    for _ in 0..500 {
+        let mut rust = any_deinterleaver(&mut p);
+        let record = deinterleaver_of(&rust);
+        let mut port = port::SacchDeinterleaver::try_from(record).expect("a good state");
+        for _ in 0..30 {
+            if p.below(30) == 0 {
+                port.reset();
+                rust.reset();
+            } else {
+                let field = p.array();
+                assert_eq!(port.push(field), rust.push(field));
+            }
+            let record = sys::Deinterleaver::from(port.clone());
+            assert_eq!(record, deinterleaver_of(&rust));
+        }
+    }
+    let bad = bad_received(&mut p, 13);
+    assert_eq!(
+        port::SacchDeinterleaver::try_from(bad),
+        Err(Refusal::State)
+    );
+    tally.part("500 lists from any state", 15_000);
     tally.end();
 }
 

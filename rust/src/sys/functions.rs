@@ -186,6 +186,12 @@ unsafe extern "C" {
     ) -> Fields;
     /// Decodes the 132 bits of a word, whatever memory the encoder began with.
     pub fn bts136_sacch_decode(coded: *const u8, coded_len: usize, dvcc: u8) -> SacchWord;
+    /// The fresh deinterleaver.
+    pub safe fn bts136_sacch_new_deinterleaver() -> Deinterleaver;
+    /// The fresh deinterleaver, whatever was given.
+    pub safe fn bts136_sacch_reset_deinterleaver(deinterleaver: Deinterleaver) -> Deinterleaver;
+    /// Takes a field; from the twelfth on each completes a row.
+    pub safe fn bts136_sacch_deinterleave(deinterleaver: Deinterleaver, field: u16) -> Row;
     /// The fresh receiver.
     pub safe fn bts136_sacch_new_receiver() -> Receiver;
     /// The fresh receiver, whatever was given.

@@ -144,6 +144,32 @@ pub struct SacchWord {
     pub ending: u8,
 }
 
+/// The SACCH deinterleaver. Any value may be given; one out of its range is refused with 8.
+#[repr(C)]
+#[derive(Clone, Copy, Debug, PartialEq, Eq)]
+pub struct Deinterleaver {
+    /// The last twelve fields, 0 to 4095.
+    pub fields: [u16; 12],
+    /// The place of the next field, 0 to 11.
+    pub cursor: usize,
+    /// How many fields came, 0 to 12, where it stops.
+    pub received: usize,
+}
+
+/// A row of SACCH, and the deinterleaver after it.
+#[repr(C)]
+#[derive(Clone, Copy, Debug, PartialEq, Eq)]
+pub struct Row {
+    /// 0, 2 or 8.
+    pub refusal: u8,
+    /// Whether the field completed a row: so does each from the twelfth on.
+    pub complete: bool,
+    /// Twelve bits, the first highest: 0 to 4095.
+    pub row: u16,
+    /// The deinterleaver after the call.
+    pub deinterleaver: Deinterleaver,
+}
+
 /// The SACCH receiver. Any value may be given; one out of its range is refused with 8.
 #[repr(C)]
 #[derive(Clone, Copy, Debug, PartialEq, Eq)]

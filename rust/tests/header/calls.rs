@@ -2,7 +2,7 @@
 use crate::c::Program;
 use crate::functions::in_header;
 use bts136::flat;
-use bts136::sys::{Block, Encoder, Receiver, Step, Written};
+use bts136::sys::{Block, Deinterleaver, Encoder, Receiver, Step, Written};
 
 /// Bits to read, room to write, and reliabilities. `sum` depends on each byte and its place.
 const BEFORE: &str = "
@@ -284,8 +284,40 @@ fn sacch(program: &mut Program) {
         program.line("encoder = made.encoder;");
     }
     states(program, encoder, receiver);
+    rows(program);
     let coded = flat::sacch_decode(&bits(132), 90);
     program.value("bts136_sacch_decode(bits, 132, 90).refusal", coded.refusal);
+}
+
+/// Thirteen fields, the rows of the last two, and all of the deinterleaver after each call.
+fn rows(program: &mut Program) {
+    program.line("struct bts136_deinterleaver fields = bts136_sacch_new_deinterleaver();");
+    program.line("struct bts136_row row;");
+    let mut fields = Deinterleaver::fresh();
+    for field in (0..13).map(|k| (2741 * k + 1365) % 4096) {
+        let row = fields.push(field);
+        program.line(&format!(
+            "row = bts136_sacch_deinterleave(fields, {field});"
+        ));
+        program.value("row.refusal", row.refusal);
+        program.value("row.complete", u8::from(row.complete));
+        program.value("row.row", row.row);
+        fields = row.deinterleaver;
+        program.line("fields = row.deinterleaver;");
+        program.value("fields.fields[0]", fields.fields[0]);
+        program.value("fields.cursor", fields.cursor);
+        program.value("fields.received", fields.received);
+    }
+    let refused = fields.push(4096);
+    program.value(
+        "bts136_sacch_deinterleave(fields, 4096).refusal",
+        refused.refusal,
+    );
+    let fresh = fields.reset();
+    program.value(
+        "bts136_sacch_reset_deinterleaver(fields).received",
+        fresh.received,
+    );
 }
 
 fn states(program: &mut Program, encoder: Encoder, receiver: Receiver) {

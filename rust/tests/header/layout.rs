@@ -47,6 +47,8 @@ records! {
     "bts136_field" Field: refusal encoder field;
     "bts136_fields" Fields: refusal encoder fields;
     "bts136_sacch_word" SacchWord: refusal expected actual continuation message corrected ending;
+    "bts136_deinterleaver" Deinterleaver: fields cursor received;
+    "bts136_row" Row: refusal complete row deinterleaver;
     "bts136_receiver" Receiver:
         fields field_cursor received rows row_cursor available phase lock;
     "bts136_pushed" Pushed: kind refusal continuation message corrected ending receiver;

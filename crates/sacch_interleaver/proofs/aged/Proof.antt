@@ -1,21 +1,19 @@
 -- `sacch_interleaver::aged` meets its contract: the places filled so far hold the ring's. Assumes nothing.
-use mathlib.Core.Path.{_≡_, refl}
-use Prim.Native.Nat.{ℕ, _+_, _-_, _%_}
+use Prim.Native.Nat.{_-_}
 use native.Mathlib.Omega.{arith}
-use lib.ListN.{getD, length-replicate}
-use Rattle.bits.proofs.Filled.{Filling, filling-none, filling-more}
+use Rattle.sacch_interleaver.proofs.LaidOut.{Laying, laying-none, laying-more, laying-done}
 use borrow.Author.Needs.{needs}
 use Rattle.sacch_interleaver.proofs.aged.Statement.{statement}
 use Rattle.sacch_interleaver.proofs.aged.Tie as tie
 
 abbrev Inv-loop : tie.InvT-loop
-Inv-loop ring next run₀ i₀ run i = Filling (λ k x. x ≡ getD ring ((next + k) % 12) 0) 0 23 run i
+Inv-loop ring next run₀ i₀ run i = Laying ring next run i
 
 abbrev μ-loop : tie.MeasureT-loop
 μ-loop ring next run₀ i₀ run i = 12 - i
 
 loop-holds : tie.Need-loop-holds Inv-loop μ-loop
-loop-holds c = filling-none (length-replicate {A = ℕ} 23 0)
+loop-holds c = laying-none
 
 add-run : tie.Need-add-run Inv-loop μ-loop
 add-run c = search needs
@@ -39,10 +37,10 @@ loop-less : tie.Need-loop-less Inv-loop μ-loop
 loop-less c = search needs
 
 loop-again : tie.Need-loop-again Inv-loop μ-loop
-loop-again c = filling-more (c .before .before .loop .inv) _ (omega arith) refl
+loop-again c = laying-more (c .before .before .loop .inv) (c .before .loop-test .taken)
 
 returns : tie.Need-returns Inv-loop μ-loop
-returns c = let i = c .before .loop .inv in (i .size, λ k h. i .right k (omega arith))
+returns c = laying-done (c .before .loop .inv) (omega arith)
 
 pub aged-spec : {M : Type 1} → statement M
 aged-spec =

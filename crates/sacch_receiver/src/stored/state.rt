@@ -1,11 +1,7 @@
-// The phases that a lock lets be tried, and what is stored.
+// The phases that a lock allows.
 // Ported from 136-bts, sacch.rs, and changed (see NOTICE).
 use crate::stored::Lock;
-use bits::both;
-use sacch_interleaver::all_twelve;
 ghost use mathlib.Core.Path.{_≡_};
-ghost use mathlib.Core.Bool.{_&&_};
-ghost use Rattle.sacch_interleaver.specs.Diagonal.{allTwelve};
 ghost use Rattle.sacch_receiver.specs.Stored.{lockFits, tries};
 
 // Whether a lock holds a phase that there is.
@@ -18,7 +14,7 @@ pub fn lock_fits(lock: Lock) -> bool
     }
 }
 
-// Whether the lock lets a phase be tried.
+// Whether the lock allows a trial at a phase.
 pub fn lock_tries(lock: Lock, phase: u8) -> bool
     ensures { λ r. ⌜ r ≡ tries lock phase ⌝ }
 {
@@ -26,12 +22,4 @@ pub fn lock_tries(lock: Lock, phase: u8) -> bool
         Lock::Unlocked => true,
         Lock::Locked(at) => at == phase,
     }
-}
-
-// Whether every stored field and row has twelve bits.
-pub fn stored_fit(fields: [u16; 12], rows: [u16; 11]) -> bool
-    ensures { λ r. ⌜ r ≡ (allTwelve fields && allTwelve rows) ⌝ }
-{
-    let fit = all_twelve(&fields);
-    both(fit, all_twelve(&rows))
 }

@@ -49,7 +49,7 @@ with-word-requires c κs =
     let a = c .before .before .before .before .before .before .before .args in
     let filled = c .before .before .complete .ensures in
     let f = fit-ready (a .self) (belowOf (2 ^ 48) (a .message)) (c .before .before .before .before .before .before .arguments .ensures) (c .before .before .before .before .enum-told .given .1) in
-    (f .memory, f .cursor, filled-length (a .continuation) (a .message) (a .dvcc) filled, filled-binary (a .continuation) (a .message) (a .dvcc) filled)
+    (omega (arith, f .memory), f .cursor, filled-length (a .continuation) (a .message) (a .dvcc) filled, filled-binary (a .continuation) (a .message) (a .dvcc) filled)
 
 returns-2 : tie.Need-returns-2
 unfolding encodeWordOf

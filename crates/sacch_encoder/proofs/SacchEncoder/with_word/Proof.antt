@@ -27,7 +27,7 @@ aged-requires c κs = search needs
 loop-holds : tie.Need-loop-holds Inv-loop μ-loop
 loop-holds c =
     let start = c .before .before .before .before in
-    slots-none (start .pre .0) (start .pre .1) (search needs) (c .aged .ensures .0) (c .aged .ensures .1)
+    slots-none (start .pre .0) (start .pre .1) (search needs) (c .aged .ensures)
 
 mul-from : tie.Need-mul-from Inv-loop μ-loop
 mul-from c = search needs

@@ -1,36 +1,46 @@
 -- `sacch_receiver::SacchReceiver::step` meets its contract: no row yet, or a row that is stored and tried. Assumes nothing.
 use mathlib.Core.Path.{ap}
 use native.Mathlib.Omega.{arith}
-use Rattle.sacch_receiver.specs.Receiver.{fieldStored, rowStored}
+use Rattle.sacch_interleaver.specs.Deinterleaver.{fieldStored, rowAnswer}
+use Rattle.sacch_interleaver.specs.declared.SacchDeinterleaver.{SacchDeinterleaver}
+use Rattle.sacch_receiver.specs.Receiver.{rowStored, withFields}
 use Rattle.sacch_receiver.specs.declared.SacchReceiver.{SacchReceiver}
-use Rattle.sacch_receiver.proofs.Pushing.{step-missing, step-complete}
+use Rattle.sacch_receiver.proofs.Pushing.{not-row, step-missing, step-complete}
 use borrow.Author.Needs.{needs}
 use Rattle.sacch_receiver.proofs.SacchReceiver.step.Statement.{statement}
 use Rattle.sacch_receiver.proofs.SacchReceiver.step.Tie as tie
 
-with-field-requires : tie.Need-with-field-requires
-with-field-requires c κs = search needs
+deinterleaver-of-requires : tie.Need-deinterleaver-of-requires
+deinterleaver-of-requires c κs = search needs
 
-row-requires : tie.Need-row-requires
+with-field-requires : tie.Need-with-field-requires
+with-field-requires c κs = omega (arith, ap (λ (d : SacchDeinterleaver). d .cursor) (c .deinterleaver-of .ensures))
+
+with-fields-requires : tie.Need-with-fields-requires
+with-fields-requires c κs = search needs
+
+row-found-requires : tie.Need-row-found-requires
 unfolding fieldStored
-row-requires c κs = omega (arith, ap (λ (r : SacchReceiver). r .«field_cursor») (c .with-field .ensures))
+row-found-requires c κs = omega (arith, ap (λ (d : SacchDeinterleaver). d .cursor) (c .before .with-field .ensures))
 
 enum-known-found : tie.Need-enum-known-found
 enum-known-found c = search needs
 
-enum-told : tie.Need-enum-told
-enum-told c = search needs
-
 returns : tie.Need-returns
 returns c =
-    let a = c .before .before .before .before .args in
-    step-missing (a .self) (a .field) (a .dvcc) (c .before .before .before .with-field .ensures) (c .before .before .row .ensures) (c .enum-told .given .1)
+    let at-found = c .before in
+    let at-with-fields = at-found .before in
+    let at-with-field = at-with-fields .before in
+    let at-deinterleaver = at-with-field .before in
+    let a = at-deinterleaver .before .args in
+    step-missing (a .self) (a .field) (a .dvcc) (at-deinterleaver .deinterleaver-of .ensures) (at-with-field .with-field .ensures) (at-with-fields .with-fields .ensures)
+    (at-found .row-found .ensures) (not-row (at-found .row-found .result) (c .match .keys2))
 
 with-row-requires : tie.Need-with-row-requires
-unfolding fieldStored
+unfolding withFields
 with-row-requires c κs =
-    let at-with-field = c .before .before .before .before in
-    (omega (arith, ap (λ (r : SacchReceiver). r .«row_cursor») (at-with-field .with-field .ensures)), omega (arith, ap (λ (r : SacchReceiver). r .phase) (at-with-field .with-field .ensures)))
+    let kept = c .before .before .before .before .with-fields .ensures in
+    (omega (arith, ap (λ (r : SacchReceiver). r .«row_cursor») kept), omega (arith, ap (λ (r : SacchReceiver). r .phase) kept))
 
 trial-requires : tie.Need-trial-requires
 unfolding rowStored
@@ -38,20 +48,24 @@ trial-requires c κs = omega (arith, ap (λ (r : SacchReceiver). r .«row_cursor
 
 returns-2 : tie.Need-returns-2
 returns-2 c =
-    let a = c .before .before .before .before .before .before .before .args in
-    let at-found = c .before .before .before in
-    let at-row = at-found .before .before in
-    let at-with-field = at-row .before in
-    step-complete (a .self) (a .field) (a .dvcc) (at-with-field .with-field .ensures) (at-row .row .ensures) (at-found .found .given .1) (c .before .with-row .ensures) (c .trial .ensures)
+    let at-row = c .before .before .before in
+    let at-found = at-row .before .before in
+    let at-with-fields = at-found .before in
+    let at-with-field = at-with-fields .before in
+    let at-deinterleaver = at-with-field .before in
+    let a = at-deinterleaver .before .args in
+    step-complete (a .self) (a .field) (a .dvcc) (at-deinterleaver .deinterleaver-of .ensures) (at-with-field .with-field .ensures) (at-with-fields .with-fields .ensures)
+    (at-found .row-found .ensures) (ap rowAnswer (at-row .found .given .1)) (c .before .with-row .ensures) (c .trial .ensures)
 
 pub step-spec : {M : Type 1} → statement M
 step-spec =
     tie.close
     (tie.spec
+    deinterleaver-of-requires
     with-field-requires
-    row-requires
+    with-fields-requires
+    row-found-requires
     enum-known-found
-    enum-told
     returns
     with-row-requires
     trial-requires

@@ -28,7 +28,7 @@ const fn entry(name: &'static str, share: u64, draw: fn(&mut Prng) -> Compared) 
     Entry { name, share, draw }
 }
 
-pub static ENTRIES: [Entry; 28] = [
+pub static ENTRIES: [Entry; 29] = [
     entry("dcch::transition", SMALL, coding::dcch_step),
     entry("facch::transition", SMALL, coding::facch_step),
     entry("acelp_cc1::transition", SMALL, coding::acelp_step),
@@ -47,6 +47,7 @@ pub static ENTRIES: [Entry; 28] = [
     entry("facch::decode", SLOW, facch::decode),
     entry("sacch::encoder", COMMON, sacch::encoder),
     entry("sacch::decode", LONG, sacch::decode),
+    entry("sacch::deinterleaver", SMALL, sacch::deinterleaver),
     entry("sacch::receiver", LONG, sacch::receiver),
     entry("sacch::listening", LONG, sacch::listening),
     entry("speech::encode", COMMON, speech::vselp_encode),

@@ -1,14 +1,15 @@
-//! SACCH: lists of the encoder's calls, windows, streams into the receiver, and the listening rule.
+//! SACCH: lists of the encoder's and the deinterleaver's calls, windows, streams into the receiver, and the listening rule.
 use super::spoil::{SHARE, spoil};
 use crate::counts::Compared;
-use differential::air::{MESSAGES, any_encoder, any_receiver};
+use differential::air::{MESSAGES, any_deinterleaver, any_encoder, any_receiver};
 use differential::blocks::{Ends, Kind, bytes, code, flip};
 use differential::compare::dcch::burst;
 use differential::compare::listening::{self, Sent, latest_start};
 use differential::compare::sacch::{self, WORD, word};
+use differential::compare::sacch_deinterleaver;
 use differential::compare::sacch_encoder::{self, Calls, bad_cursor, bad_memory, bad_row, list};
 use differential::compare::sacch_receiver::{self, Air, Answers, Part, spoilt};
-use differential::phy::sacch::SacchEncoder;
+use differential::phy::sacch::{SacchDeinterleaver, SacchEncoder};
 use differential::prng::Prng;
 
 pub fn encoder(p: &mut Prng) -> Compared {
@@ -53,6 +54,40 @@ fn bad_encoder(p: &mut Prng) -> Compared {
     let six = p.byte();
     sacch_encoder::refused_state(p, port, six, message);
     Compared::some(2, 8).and(Compared::one(0))
+}
+
+pub fn deinterleaver(p: &mut Prng) -> Compared {
+    if p.below(SHARE) == 0 {
+        return bad_deinterleaver(p);
+    }
+    let rust = match p.below(4) {
+        0 => SacchDeinterleaver::default(),
+        _ => any_deinterleaver(p),
+    };
+    let mut calls = sacch_deinterleaver::Calls::default();
+    sacch_deinterleaver::list(p, &mut calls, rust);
+    let answered = calls.rows + calls.pending + calls.resets;
+    Compared::some(answered, 0).and(Compared::some(calls.refusals, 2))
+}
+
+/// A state with a part past its bound, which can be reset.
+fn bad_deinterleaver(p: &mut Prng) -> Compared {
+    let port = match p.below(3) {
+        0 => {
+            let cursor = [12, 13, usize::MAX, 12 + p.below(1 << 40)][p.below(4)];
+            sacch_deinterleaver::bad_cursor(p, cursor)
+        }
+        1 => {
+            let received = [13, 14, usize::MAX, 13 + p.below(1 << 40)][p.below(4)];
+            sacch_deinterleaver::bad_received(p, received)
+        }
+        _ => {
+            let (place, field) = (p.below(12), 4096 + p.below(61440) as u16);
+            sacch_deinterleaver::bad_field(p, place, field)
+        }
+    };
+    sacch_deinterleaver::refused_state(port, p.draw() as u16);
+    Compared::one(8).and(Compared::one(0))
 }
 
 /// A word as sent from any memory, one time in eight with its reserved bit set, with wrong bits,
