@@ -1,17 +1,17 @@
 -- A turn, turns one after the other, and the run that they come to. Assumes nothing.
-use mathlib.Core.Path.{_≡_, refl, sym, ap, subst, _∙_}
+use mathlib.Core.Path.{_≡_, refl, sym, subst}
 use mathlib.Core.Bool.{false, true}
 use mathlib.Core.Logic.{inl, inr}
-use mathlib.Core.List.{List, _++_}
+use mathlib.Core.List.{List}
 use Prim.Native.Nat.{ℕ, zero, suc, _+_, _≤_}
 use native.Mathlib.Omega.{arith}
-use lib.IntN.{ℤ, pos}
+use lib.IntN.{pos}
 use lib.ListN.{length, getD, replicate, length-replicate, take}
 use Rattle.io.specs.Counts.{clamped}
 use Rattle.text.specs.Writing.{Put}
 use Rattle.session.specs.declared.Fed.{Fed}
 use Rattle.session.specs.declared.Session.{Session}
-use Rattle.session.specs.Output.{fresh, output}
+use Rattle.session.specs.Output.{fresh}
 use Rattle.session.specs.Totals.{nothingAdded}
 use Rattle.session.specs.Contracts.{PieceFed, SessionFits, begun, endText, viewOf}
 use Rattle.session.specs.Transcript.{FedInPieces}
@@ -47,15 +47,16 @@ start-fits {s} {line} {counts} e long z =
 
 -- ---- a turn
 module _ {s : Session} {buffer line line′ counts counts′ out out′ : List ℕ} {t : Turn} where
-  pub piece-answered : (n : ℕ) (f : Fed) → n ≡ clamped (t .got) (length buffer) → PieceFed s (take n buffer) line line′ counts counts′ out out′ f
-      → f .session ≡ t .session → f .at ≤ length out′ → FirstSent (pos 1) (f .at) (t .sent) → t .next ≡ nextOf (t .got) (t .sent .whole) (t .session .left)
+  pub piece-answered : (n : ℕ) (f : Fed) → n ≡ clamped (t .got .answer) (length buffer) → PieceFed s (take n buffer) line line′ counts counts′ out out′ f
+      → f .session ≡ t .session → f .at ≤ length out′ → t .got .from ≡ pos 0 → FirstSent (pos 1) (f .at) (t .sent) → t .next ≡ nextOf (t .got .answer) (t .sent .whole) (t .session .left)
       → Answered s buffer line line′ counts counts′ out out′ t
-  piece-answered n f e p same room sent next =
+  piece-answered n f e p same room from sent next =
       record {
         fed = subst (λ (m : ℕ). PieceFed s (take m buffer) line line′ counts counts′ out out′ (record { session = t .session; at = t .sent .bytes })) e
             (subst (λ (k : ℕ). PieceFed s (take n buffer) line line′ counts counts′ out out′ (record { session = t .session; at = k })) (sym (sent .bytes))
             (subst (λ (x : Session). PieceFed s (take n buffer) line line′ counts counts′ out out′ (record { session = x; at = f .at })) same p));
         room = subst (λ (k : ℕ). k ≤ length out′) (sym (sent .bytes)) room;
+        from = from;
         to = sent .to;
         next = next;
       }

@@ -23,14 +23,15 @@ use Rattle.frames.specs.Streams.{Told, complete, failureText, leftText, 
 -- ---- one turn
 -- what a turn read: as many bytes of the buffer as the read answered
 abbrev pub pieceRead : Turn → List ℕ → List ℕ
-pieceRead t buffer = take (clamped (t .got) (length buffer)) buffer
+pieceRead t buffer = take (clamped (t .got .answer) (length buffer)) buffer
 
--- what was read is fed, and all that `feed` wrote of it is handed to standard output (1)
+-- what was read from standard input (0) is fed, and all that `feed` wrote of it is handed to standard output (1)
 pub record Answered (s : Session) (buffer line line′ counts counts′ out out′ : List ℕ) (t : Turn) : Type 0 where
   pub fed : PieceFed s (pieceRead t buffer) line line′ counts counts′ out out′ (record { session = t .session; at = t .sent .bytes })
   pub room : t .sent .bytes ≤ length out′
+  pub from : t .got .from ≡ pos 0
   pub to : t .sent .to ≡ pos 1
-  pub next : t .next ≡ nextOf (t .got) (t .sent .whole) (t .session .left)
+  pub next : t .next ≡ nextOf (t .got .answer) (t .sent .whole) (t .session .left)
 
 -- ---- turns one after the other
 -- how many, all that they read, all that they wrote, the last one, and the line and the counts that it left: each but the last found more to read

@@ -2,8 +2,10 @@
 // What it writes for an input is `output` of session/specs/Output.antt; specs/Turns.antt has the run that comes to it.
 mod streams;
 
+use crate::streams::Got;
 use crate::streams::Next;
 use crate::streams::Sent;
+use crate::streams::bytes_read;
 use crate::streams::decide;
 use crate::streams::goes_on;
 use crate::streams::nothing_sent;
@@ -25,8 +27,7 @@ ghost use Rattle.frames.specs.Turns.{Answered, Concluded, Listened, Ran}
 // One read, and the write of its answers.
 struct Turn {
     session: Session,
-    // What the read answered.
-    got: isize,
+    got: Got,
     sent: Sent,
     next: Next,
 }
@@ -66,7 +67,7 @@ fn answer_piece(
     ensures { λ r. ⌜ (16384 ≡ length (now (piece .exit))) × (409600 ≡ length (now (out .exit))) ⌝ }
 {
     let got = read_once(STDIN_FILENO, piece);
-    let n = io::count(got, piece);
+    let n = bytes_read(got, piece);
     let fed = feed(session, &piece[..n], line, counts, out);
     let after = fed.session;
     let sent = write_first(STDOUT_FILENO, out, fed.at);
@@ -74,7 +75,7 @@ fn answer_piece(
         session: after,
         got,
         sent,
-        next: decide(got, sent.whole, after.left),
+        next: decide(got, sent, after.left),
     }
 }
 
@@ -122,7 +123,7 @@ fn run(piece: &mut [u8], line: &mut [u8], counts: &mut [u32], out: &mut [u8]) ->
     let totals = conclude(last, line, counts, out);
     let next = last.next;
     let session = last.session;
-    let failure = tell_failure(next, totals.whole);
+    let failure = tell_failure(next, totals);
     let left = tell_left(session.left);
     Outcome {
         last,

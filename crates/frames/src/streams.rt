@@ -1,20 +1,26 @@
-// The calls of C, what they are given and what comes after them. No contract can say which descriptor C reads from or writes to, nor which bytes, so each of
-// the two calls stands alone in a function: `read_once` may be given standard input alone, and what `write_first` was given is in its answer.
+// The calls of C, what they were given and answered, and what comes after them. No contract can say which descriptor C reads from or writes to, nor which
+// bytes, so each of the two calls stands alone in a function (`read_once`, `write_first`) whose answer names what it was given. No other file can make one.
 use libc::STDERR_FILENO;
 ghost use mathlib.Core.Path.{_≡_};
 ghost use mathlib.Core.Bool.{not};
 ghost use Prim.Native.Nat.{_≤_};
 ghost use lib.Dec.{eqb};
-ghost use lib.IntN.{pos};
 ghost use lib.ListN.{length};
+ghost use Rattle.io.specs.Counts.{Counts, clamped};
 ghost use Rattle.libc.specs.Io.{Moved};
 ghost use Rattle.frames.specs.Streams.{FirstSent, Message, Told, complete, failureText, goesOn, leftText, nextOf, nothingSent};
+
+// What a read from a descriptor answered: -1, or how many bytes it put at the start of the buffer.
+pub struct Got {
+    from: i32,
+    answer: isize,
+}
 
 // What a descriptor was handed: so many bytes of a buffer, from the first on; and whether it took all of them.
 pub struct Sent {
     to: i32,
     bytes: usize,
-    pub whole: bool,
+    whole: bool,
 }
 
 // What comes after a read and the write of its answers.
@@ -24,12 +30,19 @@ pub enum Next {
     Fail,
 }
 
-// Answers -1, or how many bytes it put at the start of the buffer.
-pub fn read_once(from: i32, piece: &mut [u8]) -> isize
-    requires { ⌜ from ≡ pos 0 ⌝ }
-    ensures { λ r. ⌜ Moved (length (now (piece .entry))) r ⌝ }
+pub fn read_once(from: i32, piece: &mut [u8]) -> Got
+    ensures { λ r. ⌜ (r .from ≡ from) × Moved (length (now (piece .entry))) (r .answer) ⌝ }
 {
-    libc::read(from, piece)
+    let answer = libc::read(from, piece);
+    Got { from, answer }
+}
+
+// How many bytes of the buffer count as read.
+pub fn bytes_read(got: Got, piece: &[u8]) -> usize
+    ensures { λ r. ⌜ Counts r (now (piece .entry)) ⌝ }
+    ensures { λ r. ⌜ r ≡ clamped (got .answer) (length (now (piece .entry))) ⌝ }
+{
+    io::count(got.answer, piece)
 }
 
 pub fn write_first(to: i32, buffer: &[u8], bytes: usize) -> Sent
@@ -51,16 +64,22 @@ pub fn nothing_sent() -> Sent
 }
 
 // A failed call ends the run; so does the end of the input, and a million lines read.
-pub fn decide(got: isize, whole: bool, left: u32) -> Next
-    ensures { λ r. ⌜ r ≡ nextOf got whole left ⌝ }
+pub fn decide(got: Got, sent: Sent, left: u32) -> Next
+    ensures { λ r. ⌜ r ≡ nextOf (got .answer) (sent .whole) left ⌝ }
 {
-    if got < 0 {
+    next_after(got.answer, sent.whole, left)
+}
+
+fn next_after(answer: isize, whole: bool, left: u32) -> Next
+    ensures { λ r. ⌜ r ≡ nextOf answer whole left ⌝ }
+{
+    if answer < 0 {
         return Next::Fail;
     }
     if !whole {
         return Next::Fail;
     }
-    if got == 0 {
+    if answer == 0 {
         return Next::Finish;
     }
     if left == 0 {
@@ -103,10 +122,10 @@ fn tell(cause: bool, text: &[u8]) -> Sent
 }
 
 // What was written stays, and the missing totals show that it is not all.
-pub fn tell_failure(next: Next, whole: bool) -> Sent
-    ensures { λ r. ⌜ Told (not (complete next whole)) failureText r ⌝ }
+pub fn tell_failure(next: Next, totals: Sent) -> Sent
+    ensures { λ r. ⌜ Told (not (complete next (totals .whole))) failureText r ⌝ }
 {
-    let failed = !is_complete(next, whole);
+    let failed = !is_complete(next, totals.whole);
     tell(
         failed,
         b"frames: a read or a write failed; no totals are written\n",

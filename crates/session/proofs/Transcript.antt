@@ -1,6 +1,6 @@
 -- However an input is cut into pieces, what `feed` writes of them one after the other, and `finish` after them, is its output. Assumes nothing.
 use mathlib.Core.Path.{_≡_, refl, sym, ap, ap₂, _∙_}
-use mathlib.Core.List.{List, _++_}
+use mathlib.Core.List.{List, _++_, append-assoc}
 use Prim.Native.Nat.{ℕ, _+_, _≤_}
 use native.Mathlib.Omega.{arith}
 use lib.ListN.{length, take, drop}
@@ -13,6 +13,7 @@ use Rattle.session.specs.Scanning.{Scan, seen, bytesSaid}
 use Rattle.session.specs.Contracts.{atStart, begun, endText, viewOf}
 use Rattle.session.specs.Transcript.{FedInPieces}
 use Rattle.session.specs.Transcript.FedInPieces.{started, more}
+use Rattle.session.proofs.Unread.{unread}
 use Rattle.session.proofs.Whole.{seen-then, bytes-said-then, whole}
 
 -- what stands at the start of a buffer
@@ -40,3 +41,15 @@ pub transcript : {input written line counts out out′ : List ℕ} {s : Session}
     → Put out 0 (endText (viewOf s line counts)) out′ k → k ≤ length out′ → written ++ take k out′ ≡ output input
 transcript {input} fed p room =
     ap₂ (λ (a b : List ℕ). a ++ b) (pieces-said fed) (put-front room p ∙ ap endText (pieces-seen fed)) ∙ sym (whole input)
+
+-- with a million lines read, a program may leave the rest: the output of the input is what it was
+pub rest-unread : {input written line counts : List ℕ} {s : Session} → FedInPieces input written s line counts → s .left ≡ 0
+    → (rest : List ℕ) → output (input ++ rest) ≡ output input
+unfolding viewOf
+rest-unread {input} {counts = counts} fed none rest =
+    let c : Scan = seen atStart input in
+    whole (input ++ rest)
+    ∙ ap₂ (λ (a b : List ℕ). a ++ b) (bytes-said-then input rest atStart) (ap endText (seen-then input rest atStart))
+    ∙ append-assoc (bytesSaid atStart input) (bytesSaid c rest) (endText (seen c rest))
+    ∙ ap (λ (r : List ℕ). bytesSaid atStart input ++ r) (unread c rest (ap (λ (x : Scan). x .left) (sym (pieces-seen fed)) ∙ none))
+    ∙ sym (whole input)

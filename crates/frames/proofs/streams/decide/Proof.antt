@@ -1,26 +1,21 @@
--- `frames::streams::decide` meets its contract: a law for each way out. Assumes nothing.
-use Rattle.frames.proofs.Deciding.{goes-on, input-ended, lines-ended, read-failed, write-failed}
+-- `frames::streams::decide` meets its contract, which is that of `next_after`. Assumes nothing.
+use mathlib.Core.Path.{ap, _∙_}
+use borrow.Author.Needs.{needs}
+use lib.IntN.{ℤ}
+use mir.Syntax.{w64}
+use mir.Facts.{toZ-ofZ}
+use Rattle.frames.specs.Streams.{nextOf}
 use Rattle.frames.proofs.streams.decide.Statement.{statement}
 use Rattle.frames.proofs.streams.decide.Tie as tie
 
+next-after-requires : tie.Need-next-after-requires
+next-after-requires c κs = search needs
+
 returns : tie.Need-returns
-returns c = read-failed _ (c .before .fits .got) _ _ (c .if1 .taken)
-
-returns-2 : tie.Need-returns-2
-returns-2 c = write-failed _ (c .before .before .fits .got) _ _ (c .if2 .taken)
-
-returns-3 : tie.Need-returns-3
-returns-3 c = input-ended _ (c .before .before .before .fits .got) _ _ (c .before .if2 .left) (c .if3 .taken)
-
-returns-4 : tie.Need-returns-4
-returns-4 c =
-    let entry = c .before .before .before .before in
-    lines-ended _ (entry .fits .got) _ _ (c .before .before .before .if1 .left) (c .before .before .if2 .left) (c .before .if3 .left) (c .if4 .taken)
-
-returns-5 : tie.Need-returns-5
-returns-5 c =
-    let entry = c .before .before .before .before in
-    goes-on _ (entry .fits .got) _ _ (c .before .before .before .if1 .left) (c .before .before .if2 .left) (c .before .if3 .left) (c .if4 .left)
+returns c =
+    let given = c .before .before .args in
+    let same = toZ-ofZ {w = w64} {z = given .got .answer} (record { sfits = c .before .struct-told .given .1 .0 .1 }) in
+    c .next-after .ensures ∙ ap (λ (z : ℤ). nextOf z (given .sent .whole) (given .left)) same
 
 pub decide-spec : {M : Type 1} → statement M
-decide-spec = tie.close (tie.spec returns returns-2 returns-3 returns-4 returns-5)
+decide-spec = tie.close (tie.spec next-after-requires returns)

@@ -1,8 +1,5 @@
 -- `frames::streams::goes_on` meets its contract. Assumes nothing.
-use mathlib.Core.Path.{sym, ap}
-use mathlib.Core.Bool.{Bool}
 use borrow.Author.Needs.{needs}
-use Rattle.frames.specs.declared.streams.Next.{Next}
 use Rattle.frames.specs.Streams.{goesOn}
 use Rattle.frames.proofs.streams.goes_on.Statement.{statement}
 use Rattle.frames.proofs.streams.goes_on.Tie as tie

@@ -1,8 +1,5 @@
 -- `frames::streams::is_complete` meets its contract. Assumes nothing.
-use mathlib.Core.Path.{sym, ap}
-use mathlib.Core.Bool.{Bool}
 use borrow.Author.Needs.{needs}
-use Rattle.frames.specs.declared.streams.Next.{Next}
 use Rattle.frames.specs.Streams.{complete}
 use Rattle.frames.proofs.streams.is_complete.Statement.{statement}
 use Rattle.frames.proofs.streams.is_complete.Tie as tie

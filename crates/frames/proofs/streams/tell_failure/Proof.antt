@@ -2,7 +2,7 @@
 use mathlib.Core.Path.{subst}
 use mathlib.Core.Bool.{Bool, not}
 use borrow.Author.Needs.{needs}
-use Rattle.frames.specs.Streams.{Message, Told, failureText}
+use Rattle.frames.specs.Streams.{Told, failureText}
 use Rattle.frames.specs.Streams.Message.{failure}
 use Rattle.frames.proofs.streams.tell_failure.Statement.{statement}
 use Rattle.frames.proofs.streams.tell_failure.Tie as tie

@@ -1,6 +1,6 @@
 -- `frames::streams::tell_left` meets its contract. Assumes nothing.
 use borrow.Author.Needs.{needs}
-use Rattle.frames.specs.Streams.{Message, leftText}
+use Rattle.frames.specs.Streams.{leftText}
 use Rattle.frames.specs.Streams.Message.{left}
 use Rattle.frames.proofs.streams.tell_left.Statement.{statement}
 use Rattle.frames.proofs.streams.tell_left.Tie as tie
