@@ -35,8 +35,8 @@ actualOf Reserved = 0
 actualOf Line = 0
 actualOf State = 0
 
--- What a call answers: a result, or a refusal, where nothing was written and no state has moved. Each answer enum of a crate has one function into this. A push
--- to a receiver has two answers more, Pending and Rejected, and is its own enum (sacch_receiver).
+-- What a call answers: a result, or a refusal, where nothing was written and no state has moved. Each answer enum of a crate has one function into this. What a push
+-- to a receiver answers is in Pushes.antt.
 pub data Answer (A : Type 0) : Type 0 where
   accepted : A → Answer A
   refused : Refusal → Answer A

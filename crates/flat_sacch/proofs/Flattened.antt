@@ -6,6 +6,7 @@ use mathlib.Core.Bool.{false}
 use mathlib.Core.List.{List}
 use Prim.Native.Nat.{ℕ}
 use Rattle.bits.specs.Refusals.{Answer, numberOf, expectedOf, actualOf}
+use Rattle.bits.specs.Pushes.{PushAnswer}
 use Rattle.bits.specs.declared.Refusal.{Refusal}
 use Rattle.sacch_encoder.specs.Encoder.{Sent}
 use Rattle.sacch_encoder.specs.declared.SacchEncoder.{SacchEncoder}
@@ -26,11 +27,11 @@ pub fields-made : (s : Sent (List ℕ)) (a : Answer Unit) (e : SacchEncoder) (x 
 fields-made s a e x n h k = ap (λ (m : ℕ). record { refusal = m; encoder = e; fields = x }) k ∙ ap flatFields h
 
 -- a receiver's call P, at the receiver that a flat one stands for, and its answer, told in other words
-pub flat-moved : (P : SacchReceiver → Moved) (b s : SacchReceiver) (a told : Answer SacchWord) (after : SacchReceiver) (flat : Receiver) (r : Pushed)
+pub flat-moved : (P : SacchReceiver → Moved) (b s : SacchReceiver) (a told : PushAnswer SacchWord) (after : SacchReceiver) (flat : Receiver) (r : Pushed)
     → b ≡ s → record { answer = a; receiver = after } ≡ P b → told ≡ a → flat ≡ flatReceiver after → r ≡ flatAnswer told flat → r ≡ flatMoved (P s)
 unfolding flatMoved
 flat-moved P b s a told after flat r same call e back is =
-    is ∙ ap (λ (x : Answer SacchWord). flatAnswer x flat) e ∙ ap (flatAnswer a) back ∙ ap flatMoved (call ∙ ap P same)
+    is ∙ ap (λ (x : PushAnswer SacchWord). flatAnswer x flat) e ∙ ap (flatAnswer a) back ∙ ap flatMoved (call ∙ ap P same)
 
 -- a flat receiver that is not moved comes back as it was
 lock-back : (n : ℕ) → lockByte (lockOf n) ≡ n

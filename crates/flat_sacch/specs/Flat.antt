@@ -3,8 +3,9 @@ use mathlib.Core.Bool.{true, false, cond}
 use mathlib.Core.List.{List}
 use Prim.Native.Nat.{ℕ}
 use lib.Dec.{eqb}
-use Rattle.bits.specs.Refusals.{Answer, accepted, pending, rejected, refused, numberOf, expectedOf, actualOf}
-use Rattle.bits.specs.declared.Refusal.{Refusal}
+use Rattle.bits.specs.Refusals.{Answer, accepted, refused, numberOf, expectedOf, actualOf}
+use Rattle.bits.specs.Pushes.{PushAnswer}
+use Rattle.bits.specs.Pushes as push
 use Rattle.sacch_interleaver.specs.Deinterleaver.{Deinterleaved}
 use Rattle.sacch_interleaver.specs.declared.SacchDeinterleaver.{SacchDeinterleaver}
 use Rattle.sacch_encoder.specs.Encoder.{Sent}
@@ -22,8 +23,6 @@ use Rattle.flat_sacch.specs.declared.receiver.Pushed.{Pushed}
 
 abbrev pub numberIn : {A : Type 0} → Answer A → ℕ
 numberIn (accepted x) = 0
-numberIn pending = 0
-numberIn (rejected why) = numberOf why
 numberIn (refused why) = numberOf why
 
 -- ---- the encoder
@@ -33,11 +32,7 @@ flatField s = record { refusal = numberIn (s .answer); encoder = s .encoder; fie
 abbrev pub flatFields : Sent (List ℕ) → Fields
 flatFields s = record { refusal = numberIn (s .answer); encoder = s .encoder; fields = s .made }
 
--- ---- the decoder, which is never pending and rejects nothing
-abbrev pub noWord : Refusal → Word
-noWord why =
-    record { refusal = numberOf why; expected = expectedOf why; actual = actualOf why; continuation = false; message = 0; corrected = 0; ending = 0 }
-
+-- ---- the decoder: a word, or the numbers of a refusal with zeros beside them
 abbrev pub flatWord : Answer SacchWord → Word
 flatWord (accepted w) =
     record {
@@ -49,16 +44,15 @@ flatWord (accepted w) =
       corrected = w .corrected;
       ending = w .ending;
     }
-flatWord pending = record { refusal = 0; expected = 0; actual = 0; continuation = false; message = 0; corrected = 0; ending = 0 }
-flatWord (rejected why) = noWord why
-flatWord (refused why) = noWord why
+flatWord (refused why) =
+    record { refusal = numberOf why; expected = expectedOf why; actual = actualOf why; continuation = false; message = 0; corrected = 0; ending = 0 }
 
 -- ---- the deinterleaver, which rejects nothing
-abbrev pub flatRow : Answer ℕ → SacchDeinterleaver → Row
-flatRow (accepted row) d = record { refusal = 0; complete = true; row = row; deinterleaver = d }
-flatRow pending d = record { refusal = 0; complete = false; row = 0; deinterleaver = d }
-flatRow (rejected why) d = record { refusal = numberOf why; complete = false; row = 0; deinterleaver = d }
-flatRow (refused why) d = record { refusal = numberOf why; complete = false; row = 0; deinterleaver = d }
+abbrev pub flatRow : PushAnswer ℕ → SacchDeinterleaver → Row
+flatRow (push.accepted row) d = record { refusal = 0; complete = true; row = row; deinterleaver = d }
+flatRow push.pending d = record { refusal = 0; complete = false; row = 0; deinterleaver = d }
+flatRow (push.rejected why) d = record { refusal = numberOf why; complete = false; row = 0; deinterleaver = d }
+flatRow (push.refused why) d = record { refusal = numberOf why; complete = false; row = 0; deinterleaver = d }
 
 abbrev pub flatPushedRow : Deinterleaved → Row
 flatPushedRow m = flatRow (m .answer) (m .deinterleaver)
@@ -99,12 +93,12 @@ flatReceiver s = record {
 abbrev pub noWordPushed : ℕ → ℕ → Receiver → Pushed
 noWordPushed kind refusal r = record { kind = kind; refusal = refusal; continuation = false; message = 0; corrected = 0; ending = 0; receiver = r }
 
-abbrev pub flatAnswer : Answer SacchWord → Receiver → Pushed
-flatAnswer pending r = noWordPushed 0 0 r
-flatAnswer (accepted w) r =
+abbrev pub flatAnswer : PushAnswer SacchWord → Receiver → Pushed
+flatAnswer push.pending r = noWordPushed 0 0 r
+flatAnswer (push.accepted w) r =
     record { kind = 1; refusal = 0; continuation = w .continuation; message = w .message; corrected = w .corrected; ending = w .ending; receiver = r }
-flatAnswer (rejected why) r = noWordPushed 2 (numberOf why) r
-flatAnswer (refused why) r = noWordPushed 3 (numberOf why) r
+flatAnswer (push.rejected why) r = noWordPushed 2 (numberOf why) r
+flatAnswer (push.refused why) r = noWordPushed 3 (numberOf why) r
 
 unfoldable pub flatMoved : Moved → Pushed
 flatMoved m = flatAnswer (m .answer) (flatReceiver (m .receiver))

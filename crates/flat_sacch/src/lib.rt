@@ -20,9 +20,10 @@ use sacch::Decoded;
 use sacch::SacchEncoder;
 ghost use mathlib.Core.Path.{_≡_};
 ghost use Rattle.bits.specs.Calls.{wroteAnswer};
+ghost use Rattle.bits.specs.Refusals.{refused};
 ghost use Rattle.sacch_decoder.specs.Decoding.{decodeAnswer, decoding, decodeArguments};
 ghost use Rattle.sacch_encoder.specs.Encoder.{encodeBitsOf, encodeWordOf, freshEncoder};
-ghost use Rattle.flat_sacch.specs.Flat.{flatField, flatFields, flatWord, noWord, numberIn};
+ghost use Rattle.flat_sacch.specs.Flat.{flatField, flatFields, flatWord, numberIn};
 
 // One field, 0 where the call is refused; then the encoder is the one that was given.
 #[repr(C)]
@@ -100,7 +101,7 @@ pub fn encode_word(encoder: SacchEncoder, continuation: bool, message: u64, dvcc
 }
 
 fn no_word(why: Refusal) -> Word
-    ensures { λ r. ⌜ r ≡ noWord why ⌝ }
+    ensures { λ r. ⌜ r ≡ flatWord (refused why) ⌝ }
 {
     let numbers = not_written(why);
     Word {

@@ -7,7 +7,7 @@ use native.Mathlib.Omega.{arith}
 use borrow.Author.Tests.{lt-ltb, le-ltb}
 use lib.Dec.{ltb}
 use lib.ListN.{length, length-set}
-use Rattle.bits.specs.Refusals.{Answer, accepted, pending, rejected, refused}
+use Rattle.bits.specs.Refusals.{Answer, accepted, refused}
 use Rattle.bits.specs.Arguments.{firstRefusal, belowOf}
 use Rattle.bits.specs.declared.arguments.Arguments.the-variants.{Passed, Refused}
 use Rattle.bits.specs.declared.Refusal.the-variants.{State, Symbol}
@@ -120,8 +120,6 @@ lock-fits l f h =
 
 trial-lock-fits : (x : Answer SacchWord) (p : ℕ) → p < 11 → lockFits (trialLock x p) ≡ true
 trial-lock-fits (accepted word) p h = lt-ltb p 11 h
-trial-lock-fits pending p h = refl
-trial-lock-fits (rejected why) p h = refl
 trial-lock-fits (refused why) p h = refl
 
 -- what holds of both arms holds of the choice

@@ -5,7 +5,9 @@ use Prim.Native.Nat.{ℕ, suc, _+_, _-_, _*_, _/_, _%_, _≤_, _<_, min}
 use native.Mathlib.Omega.{arith}
 use lib.ListN.{getD, length, take, drop, length-take, length-drop}
 use lib.Seq.{length-take-le, getD-take, getD-drop}
-use Rattle.bits.specs.Refusals.{Answer, accepted, pending}
+use Rattle.bits.specs.Refusals.{accepted}
+use Rattle.bits.specs.Pushes.{PushAnswer}
+use Rattle.bits.specs.Pushes as push
 use Rattle.bits.proofs.Listed.{is-listed}
 use Rattle.sacch_interleaver.proofs.Diagonal.{diagonal, diagonal-below}
 use Rattle.sacch_encoder.specs.Encoder.{fieldsFrom}
@@ -112,13 +114,13 @@ module _ {dvcc a : ℕ} {e : SacchEncoder} {calls : List EncoderCall} {given : L
       )
 
   -- ---- the answers of the fields from the 22nd on are those of the trials
-  abbrev out : ℕ → Answer SacchWord
+  abbrev out : ℕ → PushAnswer SacchWord
   out t = stepOf (receiverAt dvcc r field (11 + (10 + t))) (field (11 + (10 + t))) dvcc .answer
 
   answer-is : (n t : ℕ) → n ≡ t + 22 → n ≤ length fields → answer r pushes n ≡ out t
   answer-is n t h l =
       let e : n - 1 ≡ 11 + (10 + t) = omega arith in
-      ap (λ (k : ℕ). getD (answers r pushes) k pending) e
+      ap (λ (k : ℕ). getD (answers r pushes) k push.pending) e
       ∙ answers-at dvcc (listened .pushed) receiver field field-at (11 + (10 + t)) (omega arith)
 
   module _ (no-false : NoFalseWord dvcc a e given (length fields)) where
@@ -136,7 +138,7 @@ module _ {dvcc a : ℕ} {e : SacchEncoder} {calls : List EncoderCall} {given : L
     trials = record { windows = windows; first = late-fits dvcc field receiver field-below 10 .fit .lock; locking = trials-run dvcc field receiver field-below }
 
     -- where field n gives a word
-    word-at : (n : ℕ) → 22 ≤ n → n ≤ length fields → (w : SacchWord) → answer r pushes n ≡ accepted w → out (n - 22) ≡ accepted w
+    word-at : (n : ℕ) → 22 ≤ n → n ≤ length fields → (w : SacchWord) → answer r pushes n ≡ push.accepted w → out (n - 22) ≡ push.accepted w
     word-at n h l w o = sym (answer-is n (n - 22) (omega arith) l) ∙ o
 
     promised : Promised dvcc a e given r pushes (length fields)

@@ -10,7 +10,8 @@ use lib.Dec.{ltb}
 use lib.ListN.{getD}
 use Rattle.bits.specs.Numbers.{packed}
 use Rattle.bits.specs.Places.{listed}
-use Rattle.bits.specs.Refusals.{Answer, pending}
+use Rattle.bits.specs.Refusals.{Answer}
+use Rattle.bits.specs.Pushes as push
 use Rattle.bits.proofs.Listed.{length-listed, getD-listed, is-listed}
 use Rattle.bits.proofs.Ring.{Holds, holds-next}
 use Rattle.sacch_interleaver.specs.Diagonal.{bitOf, rowOf}
@@ -58,28 +59,28 @@ step-stores r field dvcc =
 step-row : (r : SacchReceiver) (field dvcc : ℕ) → 11 ≤ r .received → stepOf r field dvcc ≡ tried (rowed r field) dvcc
 unfolding stepOf withFields fieldStored rowed
 step-row r field dvcc h =
-    ap (λ (b : Bool). cond b (record { answer = pending; receiver = fieldTaken r field }) (tried (rowed r field) dvcc))
+    ap (λ (b : Bool). cond b (record { answer = push.pending; receiver = fieldTaken r field }) (tried (rowed r field) dvcc))
     (le-ltb (fieldTaken r field .received) 12 (omega arith))
 
 -- with fewer it waits
-pub step-waits : (r : SacchReceiver) (field dvcc : ℕ) → r .received < 11 → stepOf r field dvcc ≡ record { answer = pending; receiver = fieldTaken r field }
+pub step-waits : (r : SacchReceiver) (field dvcc : ℕ) → r .received < 11 → stepOf r field dvcc ≡ record { answer = push.pending; receiver = fieldTaken r field }
 unfolding stepOf withFields fieldStored rowed
 step-waits r field dvcc h =
-    ap (λ (b : Bool). cond b (record { answer = pending; receiver = fieldTaken r field }) (tried (rowed r field) dvcc))
+    ap (λ (b : Bool). cond b (record { answer = push.pending; receiver = fieldTaken r field }) (tried (rowed r field) dvcc))
     (lt-ltb (fieldTaken r field .received) 12 (omega arith))
 
 -- and so it does with fewer than eleven rows
-pub tried-waits : (r : SacchReceiver) (dvcc : ℕ) → r .available < 11 → tried r dvcc ≡ record { answer = pending; receiver = r }
+pub tried-waits : (r : SacchReceiver) (dvcc : ℕ) → r .available < 11 → tried r dvcc ≡ record { answer = push.pending; receiver = r }
 unfolding tried
 tried-waits r dvcc h = rw (lt-ltb (r .available) 11 h)
 
 -- with all eleven rows there, the lock decides; x is what they decode to
 record Decided (b : Bool) (r : SacchReceiver) (x : Answer SacchWord) (m : Moved) : Type 0 where
-  answer : m .answer ≡ cond b (trialAnswer x) pending
+  answer : m .answer ≡ cond b (trialAnswer x) push.pending
   lock : m .receiver .lock ≡ cond b (trialLock x (r .phase)) (r .lock)
 
 decided : (b : Bool) (r : SacchReceiver) (x : Answer SacchWord)
-    → Decided b r x (cond b (record { answer = trialAnswer x; receiver = locked r (trialLock x (r .phase)) }) (record { answer = pending; receiver = r }))
+    → Decided b r x (cond b (record { answer = trialAnswer x; receiver = locked r (trialLock x (r .phase)) }) (record { answer = push.pending; receiver = r }))
 unfolding locked
 decided true r x = record { answer = refl; lock = refl }
 decided false r x = record { answer = refl; lock = refl }
@@ -209,7 +210,7 @@ module _ (dvcc : ℕ) {r : SacchReceiver} (fields : ℕ → ℕ) (fit : Fitting 
   abbrev tries-at : ℕ → Bool
   tries-at s = tries (late (10 + s) .lock) ((late 0 .phase + s) % 11)
 
-  answer-at : (s : ℕ) → stepOf (late (10 + s)) (fields (11 + (10 + s))) dvcc .answer ≡ cond (tries-at s) (trialAnswer (decodeRows (window s) dvcc)) pending
+  answer-at : (s : ℕ) → stepOf (late (10 + s)) (fields (11 + (10 + s))) dvcc .answer ≡ cond (tries-at s) (trialAnswer (decodeRows (window s) dvcc)) push.pending
   answer-at s =
       ap (λ (m : Moved). m .answer) (late-step (10 + s)) ∙ tried-decides (full (10 + s)) dvcc (enough s) .answer
       ∙ rw (window-at s, phase-at s, lock-at s)

@@ -6,7 +6,9 @@ use native.Mathlib.Decide.{decLt}
 use native.Mathlib.Omega.{arith}
 use lib.ListN.{getD, length}
 use Rattle.bits.specs.Bits.{allBelow}
-use Rattle.bits.specs.Refusals.{Answer, pending}
+use Rattle.bits.specs.Refusals.{Answer}
+use Rattle.bits.specs.Pushes.{PushAnswer}
+use Rattle.bits.specs.Pushes as push
 use Rattle.bits.proofs.Listed.{listed-same}
 use Rattle.sacch_interleaver.specs.Diagonal.{bitOf}
 use Rattle.sacch_interleaver.proofs.Diagonal.{twelve-same}
@@ -45,10 +47,10 @@ module _ (dvcc : ℕ) {pushes : List Push} {fields : List ℕ} (heard : Fields d
   answer-is : (n i : ℕ) → n ≡ suc i → n ≤ length fields → answer freshReceiver pushes n ≡ stepOf (at i) (stream i) dvcc .answer
   answer-is n i e h =
       let here : n - 1 ≡ i = omega arith in
-      ap (λ (k : ℕ). getD (answers freshReceiver pushes) k pending) here ∙ answers-at dvcc heard fresh-fits stream (λ k hk. refl) i (omega arith)
+      ap (λ (k : ℕ). getD (answers freshReceiver pushes) k push.pending) here ∙ answers-at dvcc heard fresh-fits stream (λ k hk. refl) i (omega arith)
 
   -- ---- before the twelfth field: no row
-  early-step : (i : ℕ) → i < 11 → stepOf (at i) (stream i) dvcc ≡ record { answer = pending; receiver = fieldTaken (at i) (stream i) }
+  early-step : (i : ℕ) → i < 11 → stepOf (at i) (stream i) dvcc ≡ record { answer = push.pending; receiver = fieldTaken (at i) (stream i) }
   unfolding freshReceiver
   early-step i h = let r : at i .received ≡ min 12 (freshReceiver .received + i) = at-received dvcc stream fresh-fits below i in step-waits (at i) (stream i) dvcc (omega arith)
 
@@ -61,7 +63,7 @@ module _ (dvcc : ℕ) {pushes : List Push} {fields : List ℕ} (heard : Fields d
       (ap (λ (r : SacchReceiver). r .available) s ∙ e .0, ap (λ (r : SacchReceiver). r .lock) s ∙ e .1)
 
   -- ---- before the 22nd: fewer than eleven
-  few : (t : ℕ) → t < 10 → tried (full t) dvcc ≡ record { answer = pending; receiver = full t }
+  few : (t : ℕ) → t < 10 → tried (full t) dvcc ≡ record { answer = push.pending; receiver = full t }
   unfolding rowed rowStored withFields fieldStored
   few t h =
       let a : at (11 + t) .available ≡ min 11 (at (11 + 0) .available + t) = late-available dvcc stream fresh-fits below t in
@@ -75,7 +77,7 @@ module _ (dvcc : ℕ) {pushes : List Push} {fields : List ℕ} (heard : Fields d
       ap (λ (r : SacchReceiver). r .lock) (late-next dvcc stream fresh-fits below t)
       ∙ ap (λ (m : Moved). m .receiver .lock) (few t (omega arith)) ∙ still-unlocked t (omega arith)
 
-  pending-early : (n i : ℕ) → n ≡ suc i → n < 22 → n ≤ length fields → answer freshReceiver pushes n ≡ pending
+  pending-early : (n i : ℕ) → n ≡ suc i → n < 22 → n ≤ length fields → answer freshReceiver pushes n ≡ push.pending
   pending-early n i e h l = answer-is n i e l ∙ elim (decLt i 11) [
     | yes b ↦ ap (λ (m : Moved). m .answer) (early-step i b)
     | no b ↦
@@ -88,7 +90,7 @@ module _ (dvcc : ℕ) {pushes : List Push} {fields : List ℕ} (heard : Fields d
   abbrev rows : ℕ → Answer SacchWord
   rows s = decodeRows (window dvcc stream fresh-fits below s) dvcc
 
-  abbrev out : ℕ → Answer SacchWord
+  abbrev out : ℕ → PushAnswer SacchWord
   out s = stepOf (at (11 + (10 + s))) (stream (11 + (10 + s))) dvcc .answer
 
   steps : Locking (at (11 + 0) .phase) rows out (λ (s : ℕ). at (11 + (10 + s)) .lock)

@@ -7,7 +7,9 @@ use native.Mathlib.Decide.{ℕ-discrete}
 use native.Mathlib.Nat.{zero-add}
 use native.Mathlib.Omega.{arith}
 use borrow.Author.Tests.{eq-eqb, ne-eqb, ltb-true}
-use Rattle.bits.specs.Refusals.{Answer, accepted, pending, rejected, refused}
+use Rattle.bits.specs.Refusals.{Answer, accepted, refused}
+use Rattle.bits.specs.Pushes.{PushAnswer}
+use Rattle.bits.specs.Pushes as push
 use Rattle.bits.specs.declared.Refusal.{Refusal}
 use Rattle.sacch_decoder.specs.declared.SacchWord.{SacchWord}
 use Rattle.sacch_receiver.specs.Stored.{tries, lockFits}
@@ -21,38 +23,34 @@ pub record Windows (a N : ℕ) (sent : ℕ → SacchWord) (rows : ℕ → Answer
   pub off : (t : ℕ) → t < N → (a + t) % 11 ≢ 1 → (w : SacchWord) → rows t ≢ accepted w
 
 -- Lock and answers go on as the receiver's do, with trial t at the phase p + t.
-pub record Locking (p : ℕ) (rows out : ℕ → Answer SacchWord) (lock : ℕ → Lock) : Type 0 where
+pub record Locking (p : ℕ) (rows : ℕ → Answer SacchWord) (out : ℕ → PushAnswer SacchWord) (lock : ℕ → Lock) : Type 0 where
   pub next : (t : ℕ) → lock (suc t) ≡ cond (tries (lock t) ((p + t) % 11)) (trialLock (rows t) ((p + t) % 11)) (lock t)
-  pub answer : (t : ℕ) → out t ≡ cond (tries (lock t) ((p + t) % 11)) (trialAnswer (rows t)) pending
+  pub answer : (t : ℕ) → out t ≡ cond (tries (lock t) ((p + t) % 11)) (trialAnswer (rows t)) push.pending
 
 -- N trials over rows that were sent
-pub record Trials (a N p : ℕ) (sent : ℕ → SacchWord) (rows out : ℕ → Answer SacchWord) (lock : ℕ → Lock) : Type 0 where
+pub record Trials (a N p : ℕ) (sent : ℕ → SacchWord) (rows : ℕ → Answer SacchWord) (out : ℕ → PushAnswer SacchWord) (lock : ℕ → Lock) : Type 0 where
   pub windows : Windows a N sent rows
   pub first : lockFits (lock 0) ≡ true
   pub locking : Locking p rows out lock
 
 -- a word comes out at one of the trials t to u
-abbrev pub WordWithin : (ℕ → Answer SacchWord) → ℕ → ℕ → Type 0
-WordWithin out t u = (s : ℕ) × (t ≤ s) × (s ≤ u) × ((w : SacchWord) × (out s ≡ accepted w))
+abbrev pub WordWithin : (ℕ → PushAnswer SacchWord) → ℕ → ℕ → Type 0
+WordWithin out t u = (s : ℕ) × (t ≤ s) × (s ≤ u) × ((w : SacchWord) × (out s ≡ push.accepted w))
 
 -- what is no word drops the lock, and no word is answered
 unlocks : (x : Answer SacchWord) (p : ℕ) → ((w : SacchWord) → x ≢ accepted w) → trialLock x p ≡ Unlocked
 unlocks (accepted w) p h = absurd (h w refl)
-unlocks pending p h = refl
-unlocks (rejected why) p h = refl
 unlocks (refused why) p h = refl
 
-word-from : (x : Answer SacchWord) (w : SacchWord) → trialAnswer x ≡ accepted w → x ≡ accepted w
+word-from : (x : Answer SacchWord) (w : SacchWord) → trialAnswer x ≡ push.accepted w → x ≡ accepted w
 word-from (accepted v) w e = e
-word-from pending w e = e
-word-from (rejected why) w e = e
 word-from (refused why) w e = let z : _≡_ {A = ℕ} 0 1 = cc in absurd (omega arith)
 
-no-word : (x : Answer SacchWord) (why : Refusal) → trialAnswer x ≡ rejected why → (w : SacchWord) → x ≢ accepted w
+no-word : (x : Answer SacchWord) (why : Refusal) → trialAnswer x ≡ push.rejected why → (w : SacchWord) → x ≢ accepted w
 no-word x why e w f = let z : _≡_ {A = ℕ} 0 1 = cc in omega arith
 
 -- ---- one trial, whatever the rows
-module _ {p : ℕ} {rows out : ℕ → Answer SacchWord} {lock : ℕ → Lock} (locking : Locking p rows out lock) where
+module _ {p : ℕ} {rows : ℕ → Answer SacchWord} {out : ℕ → PushAnswer SacchWord} {lock : ℕ → Lock} (locking : Locking p rows out lock) where
   abbrev pub Tried : ℕ → Bool → Type 0
   Tried t b = tries (lock t) ((p + t) % 11) ≡ b
 
@@ -60,13 +58,13 @@ module _ {p : ℕ} {rows out : ℕ → Answer SacchWord} {lock : ℕ → Lock} (
   trial-lock t e = locking .next t ∙ ap (λ (b : Bool). cond b (trialLock (rows t) ((p + t) % 11)) (lock t)) e
 
   pub trial-answer : (t : ℕ) → Tried t true → out t ≡ trialAnswer (rows t)
-  trial-answer t e = locking .answer t ∙ ap (λ (b : Bool). cond b (trialAnswer (rows t)) pending) e
+  trial-answer t e = locking .answer t ∙ ap (λ (b : Bool). cond b (trialAnswer (rows t)) push.pending) e
 
   rest-lock : (t : ℕ) → Tried t false → lock (suc t) ≡ lock t
   rest-lock t e = locking .next t ∙ ap (λ (b : Bool). cond b (trialLock (rows t) ((p + t) % 11)) (lock t)) e
 
-  rest-answer : (t : ℕ) → Tried t false → out t ≡ pending
-  rest-answer t e = locking .answer t ∙ ap (λ (b : Bool). cond b (trialAnswer (rows t)) pending) e
+  rest-answer : (t : ℕ) → Tried t false → out t ≡ push.pending
+  rest-answer t e = locking .answer t ∙ ap (λ (b : Bool). cond b (trialAnswer (rows t)) push.pending) e
 
   pub free : (t : ℕ) → lock t ≡ Unlocked → Tried t true
   free t e = ap (λ (l : Lock). tries l ((p + t) % 11)) e
@@ -86,7 +84,7 @@ module _ {p : ℕ} {rows out : ℕ → Answer SacchWord} {lock : ℕ → Lock} (
       ap lock next ∙ rest-lock (t + j) (waits (t + j) q same (λ y. omega arith)) ∙ same
 
   -- what an answer tells of the trial: it was made, and set the lock
-  pub word-locks : (t : ℕ) (w : SacchWord) → out t ≡ accepted w → (rows t ≡ accepted w) × (lock (suc t) ≡ Locked ((p + t) % 11))
+  pub word-locks : (t : ℕ) (w : SacchWord) → out t ≡ push.accepted w → (rows t ≡ accepted w) × (lock (suc t) ≡ Locked ((p + t) % 11))
   word-locks t w e = by (tries (lock t) ((p + t) % 11)) refl
     where
       by : (v : Bool) → Tried t v → (rows t ≡ accepted w) × (lock (suc t) ≡ Locked ((p + t) % 11))
@@ -95,7 +93,7 @@ module _ {p : ℕ} {rows out : ℕ → Answer SacchWord} {lock : ℕ → Lock} (
           let told : rows t ≡ accepted w = word-from (rows t) w (sym (trial-answer t v) ∙ e) in
           (told, trial-lock t v ∙ ap (λ (x : Answer SacchWord). trialLock x ((p + t) % 11)) told)
 
-  pub rejection-unlocks : (t : ℕ) (why : Refusal) → out t ≡ rejected why → lock (suc t) ≡ Unlocked
+  pub rejection-unlocks : (t : ℕ) (why : Refusal) → out t ≡ push.rejected why → lock (suc t) ≡ Unlocked
   rejection-unlocks t why e = by (tries (lock t) ((p + t) % 11)) refl
     where
       by : (v : Bool) → Tried t v → lock (suc t) ≡ Unlocked
@@ -103,14 +101,14 @@ module _ {p : ℕ} {rows out : ℕ → Answer SacchWord} {lock : ℕ → Lock} (
       by true v = trial-lock t v ∙ unlocks (rows t) ((p + t) % 11) (no-word (rows t) why (sym (trial-answer t v) ∙ e))
 
   -- after a word the next ten wait, and the eleventh is a trial
-  pub word-waits : (t : ℕ) (w : SacchWord) → out t ≡ accepted w → (k : ℕ) → 0 < k → k < 11 → out (t + k) ≡ pending
+  pub word-waits : (t : ℕ) (w : SacchWord) → out t ≡ push.accepted w → (k : ℕ) → 0 < k → k < 11 → out (t + k) ≡ push.pending
   word-waits t w e k hk hl =
       let q : ℕ = (p + t) % 11 in
       let l : lock (suc t + (k - 1)) ≡ Locked q = locked-waits 10 q (suc t) (omega arith) (omega arith) (word-locks t w e .1) (k - 1) (omega arith) in
       let here : suc t + (k - 1) ≡ t + k = omega arith in
       rest-answer (t + k) (waits (t + k) q (ap lock (sym here) ∙ l) (λ y. omega arith))
 
-  pub word-eleven : (t : ℕ) (w : SacchWord) → out t ≡ accepted w → out (t + 11) ≡ trialAnswer (rows (t + 11))
+  pub word-eleven : (t : ℕ) (w : SacchWord) → out t ≡ push.accepted w → out (t + 11) ≡ trialAnswer (rows (t + 11))
   word-eleven t w e =
       let q : ℕ = (p + t) % 11 in
       let l : lock (suc t + 10) ≡ Locked q = locked-waits 10 q (suc t) (omega arith) (omega arith) (word-locks t w e .1) 10 (omega arith) in
@@ -118,12 +116,12 @@ module _ {p : ℕ} {rows out : ℕ → Answer SacchWord} {lock : ℕ → Lock} (
       trial-answer (t + 11) (due (t + 11) q (ap lock (sym here) ∙ l) (omega arith))
 
 -- ---- trials over rows that were sent
-module _ {a N p : ℕ} {sent : ℕ → SacchWord} {rows out : ℕ → Answer SacchWord} {lock : ℕ → Lock} (trials : Trials a N p sent rows out lock) where
+module _ {a N p : ℕ} {sent : ℕ → SacchWord} {rows : ℕ → Answer SacchWord} {out : ℕ → PushAnswer SacchWord} {lock : ℕ → Lock} (trials : Trials a N p sent rows out lock) where
   abbrev steps : Locking p rows out lock
   steps = trials .locking
 
   -- a trial on a boundary
-  word-answer : (t : ℕ) → t < N → Tried steps t true → (a + t) % 11 ≡ 1 → out t ≡ accepted (sent ((a + t) / 11))
+  word-answer : (t : ℕ) → t < N → Tried steps t true → (a + t) % 11 ≡ 1 → out t ≡ push.accepted (sent ((a + t) / 11))
   word-answer t h e b = trial-answer steps t e ∙ ap trialAnswer (trials .windows .on t h b)
 
   word-lock : (t : ℕ) → t < N → Tried steps t true → (a + t) % 11 ≡ 1 → lock (suc t) ≡ Locked ((p + t) % 11)
@@ -134,7 +132,7 @@ module _ {a N p : ℕ} {sent : ℕ → SacchWord} {rows out : ℕ → Answer Sac
   off-lock t h e b = trial-lock steps t e ∙ unlocks (rows t) ((p + t) % 11) (trials .windows .off t h b)
 
   -- ---- a word that comes out is the one sent, and sets the lock
-  pub only-words : (t : ℕ) → t < N → (w : SacchWord) → out t ≡ accepted w
+  pub only-words : (t : ℕ) → t < N → (w : SacchWord) → out t ≡ push.accepted w
       → ((a + t) % 11 ≡ 1) × (w ≡ sent ((a + t) / 11)) × (lock (suc t) ≡ Locked ((p + t) % 11))
   only-words t h w e =
       let told = word-locks steps t w e in
@@ -193,8 +191,8 @@ module _ {a N p : ℕ} {sent : ℕ → SacchWord} {rows out : ℕ → Answer Sac
       ]
 
   -- the next words come eleven trials apart, and Pending between
-  pub words-follow : (t : ℕ) → t < N → (w : SacchWord) → out t ≡ accepted w → (k : ℕ) → 0 < k → t + k < N
-      → (k % 11 ≡ 0 → out (t + k) ≡ accepted (sent ((a + (t + k)) / 11))) × (k % 11 ≢ 0 → out (t + k) ≡ pending)
+  pub words-follow : (t : ℕ) → t < N → (w : SacchWord) → out t ≡ push.accepted w → (k : ℕ) → 0 < k → t + k < N
+      → (k % 11 ≡ 0 → out (t + k) ≡ push.accepted (sent ((a + (t + k)) / 11))) × (k % 11 ≢ 0 → out (t + k) ≡ push.pending)
   words-follow t h w e k hk hn =
       let q : ℕ = (p + t) % 11 in
       let b : (a + t) % 11 ≡ 1 = only-words t h w e .0 in

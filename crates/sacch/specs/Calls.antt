@@ -3,19 +3,26 @@ use mathlib.Core.Path.{_≡_}
 use mathlib.Core.Bool.{Bool, true, false, cond}
 use mathlib.Core.List.{List, [], _∷_, _++_}
 use Prim.Native.Nat.{ℕ}
-use Rattle.bits.specs.Refusals.{Answer, accepted, pending, rejected, refused}
+use Rattle.bits.specs.Refusals.{Answer, accepted, refused}
+use Rattle.bits.specs.Pushes.{PushAnswer}
+use Rattle.bits.specs.Pushes as push
 use Rattle.sacch_encoder.specs.Encoder.{Sent, encodeBitsOf, encodeWordOf}
 use Rattle.sacch_encoder.specs.declared.SacchEncoder.{SacchEncoder}
 use Rattle.sacch_decoder.specs.declared.SacchWord.{SacchWord}
 use Rattle.sacch_receiver.specs.Receiver.{Moved, pushOf}
 use Rattle.sacch_receiver.specs.declared.SacchReceiver.{SacchReceiver}
 
--- whether an answer is a refusal; a rejection is none
+-- whether an answer is a refusal
 abbrev pub isRefused : {A : Type 0} → Answer A → Bool
 isRefused (accepted x) = false
-isRefused pending = false
-isRefused (rejected why) = false
 isRefused (refused why) = true
+
+-- the same of a push; a rejection is none
+abbrev pub isRefusedPush : {A : Type 0} → PushAnswer A → Bool
+isRefusedPush (push.accepted x) = false
+isRefusedPush push.pending = false
+isRefusedPush (push.rejected why) = false
+isRefusedPush (push.refused why) = true
 
 -- ---- the encoder
 -- a word as it is given to the encoder
@@ -57,15 +64,15 @@ abbrev pub pushedBy : SacchReceiver → Push → Moved
 pushedBy r p = pushOf r (p .field) (p .dvcc)
 
 -- the answers to a list of pushes; a refused one is not counted
-unfoldable pub answers : SacchReceiver → List Push → List (Answer SacchWord)
+unfoldable pub answers : SacchReceiver → List Push → List (PushAnswer SacchWord)
 answers r [] = []
 answers r (p ∷ pushes) =
-    cond (isRefused (pushedBy r p .answer)) (answers (pushedBy r p .receiver) pushes) (pushedBy r p .answer ∷ answers (pushedBy r p .receiver) pushes)
+    cond (isRefusedPush (pushedBy r p .answer)) (answers (pushedBy r p .receiver) pushes) (pushedBy r p .answer ∷ answers (pushedBy r p .receiver) pushes)
 
 -- Of the pushes to a receiver, those not refused are `fields`, all under one colour code; a refused one may be any.
 pub data Fields (dvcc : ℕ) : SacchReceiver → List Push → List ℕ → Type 0 where
   no-fields : {r : SacchReceiver} → Fields dvcc r [] []
-  pushed : {r : SacchReceiver} {pushes : List Push} {fields : List ℕ} (field : ℕ) → isRefused (pushOf r field dvcc .answer) ≡ false
+  pushed : {r : SacchReceiver} {pushes : List Push} {fields : List ℕ} (field : ℕ) → isRefusedPush (pushOf r field dvcc .answer) ≡ false
       → Fields dvcc (pushOf r field dvcc .receiver) pushes fields → Fields dvcc r (record { field = field; dvcc = dvcc } ∷ pushes) (field ∷ fields)
-  refused-push : {r : SacchReceiver} {pushes : List Push} {fields : List ℕ} (p : Push) → isRefused (pushedBy r p .answer) ≡ true
+  refused-push : {r : SacchReceiver} {pushes : List Push} {fields : List ℕ} (p : Push) → isRefusedPush (pushedBy r p .answer) ≡ true
       → Fields dvcc (pushedBy r p .receiver) pushes fields → Fields dvcc r (p ∷ pushes) fields

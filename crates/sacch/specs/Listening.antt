@@ -5,7 +5,9 @@ use mathlib.Core.Bool.{true, false}
 use mathlib.Core.List.{List, [], _∷_, _++_}
 use Prim.Native.Nat.{ℕ, zero, suc, _+_, _-_, _/_, _%_, _≤_, _<_}
 use lib.ListN.{getD, length, take, drop}
-use Rattle.bits.specs.Refusals.{Answer, accepted, pending}
+use Rattle.bits.specs.Refusals.{accepted}
+use Rattle.bits.specs.Pushes.{PushAnswer}
+use Rattle.bits.specs.Pushes as push
 use Rattle.sacch_encoder.specs.Words.{codedRow, memoryAfter, sixesOf, wordOf}
 use Rattle.sacch_encoder.specs.Encoder.{encoderFits}
 use Rattle.sacch_encoder.specs.declared.SacchEncoder.{SacchEncoder}
@@ -70,21 +72,21 @@ NoFalseWord dvcc a e given N =
 
 -- ---- the promise
 -- the answer to the n-th field, counted from 1
-abbrev pub answer : SacchReceiver → List Push → ℕ → Answer SacchWord
-answer r pushes n = getD (answers r pushes) (n - 1) pending
+abbrev pub answer : SacchReceiver → List Push → ℕ → PushAnswer SacchWord
+answer r pushes n = getD (answers r pushes) (n - 1) push.pending
 
 -- of N fields
 pub record Promised (dvcc a : ℕ) (e : SacchEncoder) (given : List Given) (r : SacchReceiver) (pushes : List Push) (N : ℕ) : Type 0 where
   pub counts : length (answers r pushes) ≡ N
   -- a word comes only where row a + n - 22 begins one, and it is that word
-  pub only-sent : (n : ℕ) → 22 ≤ n → n ≤ N → (w : SacchWord) → answer r pushes n ≡ accepted w
+  pub only-sent : (n : ℕ) → 22 ≤ n → n ≤ N → (w : SacchWord) → answer r pushes n ≡ push.accepted w
       → Begins (a + n - 22) × ((a + n - 22) / 11 < length given) × (w ≡ wordSent dvcc e given ((a + n - 22) / 11))
   -- one of the fields 22 to 42 gives one
-  pub by-42 : 42 ≤ N → (n : ℕ) × (22 ≤ n) × (n ≤ 42) × ((w : SacchWord) × (answer r pushes n ≡ accepted w))
+  pub by-42 : 42 ≤ N → (n : ℕ) × (22 ≤ n) × (n ≤ 42) × ((w : SacchWord) × (answer r pushes n ≡ push.accepted w))
   -- after a field f that gives one, f + 11, f + 22 and so on give the next words, and every other one Pending
-  pub follows : (f : ℕ) → 22 ≤ f → f ≤ N → (w : SacchWord) → answer r pushes f ≡ accepted w → (k : ℕ) → 0 < k → f + k ≤ N
-      → (k % 11 ≡ 0 → ((a + (f + k) - 22) / 11 < length given) × (answer r pushes (f + k) ≡ accepted (wordSent dvcc e given ((a + (f + k) - 22) / 11))))
-      × (k % 11 ≢ 0 → answer r pushes (f + k) ≡ pending)
+  pub follows : (f : ℕ) → 22 ≤ f → f ≤ N → (w : SacchWord) → answer r pushes f ≡ push.accepted w → (k : ℕ) → 0 < k → f + k ≤ N
+      → (k % 11 ≡ 0 → ((a + (f + k) - 22) / 11 < length given) × (answer r pushes (f + k) ≡ push.accepted (wordSent dvcc e given ((a + (f + k) - 22) / 11))))
+      × (k % 11 ≢ 0 → answer r pushes (f + k) ≡ push.pending)
 
 abbrev pub ListeningRule : Type 0
 ListeningRule =

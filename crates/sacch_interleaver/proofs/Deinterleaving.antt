@@ -12,7 +12,8 @@ use lib.ListN.{getD, length, replicate, length-set}
 use Rattle.bits.specs.Bits.{allBelow}
 use Rattle.bits.specs.Numbers.{packed}
 use Rattle.bits.specs.Places.{listed}
-use Rattle.bits.specs.Refusals.{Answer, accepted, pending}
+use Rattle.bits.specs.Pushes.{PushAnswer}
+use Rattle.bits.specs.Pushes as push
 use Rattle.bits.proofs.Below.{below-head, below-tail, below-set}
 use Rattle.bits.proofs.Ring.{Holds, holds-next}
 use Rattle.sacch_interleaver.specs.Diagonal.{allTwelve, bitOf, rowOf}
@@ -43,10 +44,10 @@ unfolding deinterleaverFits
 fits-of d f = rw (lt-ltb _ _ (f .cursor), lt-ltb _ _ (f .received)) (f .fields)
 
 -- ---- a field stored, and the row found
-pub stored-is : (d : SacchDeinterleaver) (field : ℕ) {after : SacchDeinterleaver} {answer : Answer ℕ} → after ≡ fieldStored d field → answer ≡ rowFound after
+pub stored-is : (d : SacchDeinterleaver) (field : ℕ) {after : SacchDeinterleaver} {answer : PushAnswer ℕ} → after ≡ fieldStored d field → answer ≡ rowFound after
     → _≡_ {A = Deinterleaved} (record { answer = answer; deinterleaver = after }) (storedOf d field)
 stored-is d field kept told =
-    ap₂ {C = Deinterleaved} (λ (x : Answer ℕ) (a : SacchDeinterleaver). record { answer = x; deinterleaver = a }) (told ∙ ap rowFound kept) kept
+    ap₂ {C = Deinterleaved} (λ (x : PushAnswer ℕ) (a : SacchDeinterleaver). record { answer = x; deinterleaver = a }) (told ∙ ap rowFound kept) kept
 
 -- ---- fields one after the other
 push-stores : (d : SacchDeinterleaver) (field : ℕ) → Fit d → field < 4096 → pushRowOf d field ≡ storedOf d field
@@ -77,7 +78,7 @@ module _ {stream : ℕ → ℕ} {d : SacchDeinterleaver} {n : ℕ} (r : Received
       }
 
   -- the row of the newest twelve
-  found : rowFound (fieldStored d field) ≡ cond (ltb (suc n) 12) pending (accepted (packed (listed 12 (λ (j : ℕ). bitOf (stream (suc n - 12 + j)) j))))
+  found : rowFound (fieldStored d field) ≡ cond (ltb (suc n) 12) push.pending (push.accepted (packed (listed 12 (λ (j : ℕ). bitOf (stream (suc n - 12 + j)) j))))
   unfolding rowFound
   found = elim (decLt (suc n) 12) [
     | yes h ↦
@@ -87,7 +88,7 @@ module _ {stream : ℕ → ℕ} {d : SacchDeinterleaver} {n : ℕ} (r : Received
         let full : 12 ≤ suc n = omega arith in
         let c : 12 ≤ fieldStored d field .received = omega (arith, received-more .count) in
         rw (le-ltb (fieldStored d field .received) 12 c, le-ltb (suc n) 12 full)
-        (ap accepted
+        (ap push.accepted
         (row-of _ _ (seen stream) (suc n) (received-more .holds)
         ∙ twelve-same (λ j. bitOf (seen stream (suc n + j)) j) (λ j. bitOf (stream (suc n - 12 + j)) j)
         (λ j b. ap (λ (x : ℕ). bitOf x j) (after-then 12 (replicate 12 0) 0 stream (suc n - 12 + j) (suc n + j) (omega arith)))))
@@ -95,22 +96,22 @@ module _ {stream : ℕ → ℕ} {d : SacchDeinterleaver} {n : ℕ} (r : Received
 
 rows-at : (fields : List ℕ) {stream : ℕ → ℕ} {d : SacchDeinterleaver} (n : ℕ) → Received stream d n → allTwelve fields ≡ true
     → ((i : ℕ) → i < length fields → getD fields i 0 ≡ stream (n + i)) → (i : ℕ) → i < length fields
-    → getD (rowAnswers d fields) i pending ≡ cond (ltb (suc (n + i)) 12) pending (accepted (packed (listed 12 (λ (j : ℕ). bitOf (stream (suc (n + i) - 12 + j)) j))))
+    → getD (rowAnswers d fields) i push.pending ≡ cond (ltb (suc (n + i)) 12) push.pending (push.accepted (packed (listed 12 (λ (j : ℕ). bitOf (stream (suc (n + i) - 12 + j)) j))))
 unfolding rowAnswers
 rows-at [] n r t same i hi = absurd (omega arith)
 rows-at (field ∷ fields) {stream} {d} n r t same zero hi =
     let h : field < 4096 = below-head 4096 field fields t in
     let none : n + 0 ≡ n = omega arith in
     ap (λ (m : Deinterleaved). m .answer) (push-stores d field (r .fit) h) ∙ found r field h (same 0 hi ∙ ap stream none)
-    ∙ ap (λ (k : ℕ). cond (ltb (suc k) 12) pending (accepted (packed (listed 12 (λ (j : ℕ). bitOf (stream (suc k - 12 + j)) j))))) (sym none)
+    ∙ ap (λ (k : ℕ). cond (ltb (suc k) 12) push.pending (push.accepted (packed (listed 12 (λ (j : ℕ). bitOf (stream (suc k - 12 + j)) j))))) (sym none)
 rows-at (field ∷ fields) {stream} {d} n r t same (suc i) hi =
     let h : field < 4096 = below-head 4096 field fields t in
     let none : n + 0 ≡ n = omega arith in
     let more : suc n + i ≡ n + suc i = omega arith in
-    ap (λ (m : Deinterleaved). getD (rowAnswers (m .deinterleaver) fields) i pending) (push-stores d field (r .fit) h)
+    ap (λ (m : Deinterleaved). getD (rowAnswers (m .deinterleaver) fields) i push.pending) (push-stores d field (r .fit) h)
     ∙ rows-at fields (suc n) (received-more r field h (same 0 (omega arith) ∙ ap stream none)) (below-tail 4096 field fields t)
     (λ k hk. let next : n + suc k ≡ suc n + k = omega arith in same (suc k) (omega arith) ∙ ap stream next) i (omega arith)
-    ∙ ap (λ (k : ℕ). cond (ltb (suc k) 12) pending (accepted (packed (listed 12 (λ (j : ℕ). bitOf (stream (suc k - 12 + j)) j))))) more
+    ∙ ap (λ (k : ℕ). cond (ltb (suc k) 12) push.pending (push.accepted (packed (listed 12 (λ (j : ℕ). bitOf (stream (suc k - 12 + j)) j))))) more
 
 fresh-received : (stream : ℕ → ℕ) → Received stream freshDeinterleaver 0
 unfolding freshDeinterleaver allBelow
@@ -124,9 +125,9 @@ fresh-received stream =
 
 -- a fresh deinterleaver answers Pending before the twelfth field, and from there on the row that each completes
 pub row-with-12th : (fields : List ℕ) → allTwelve fields ≡ true → (n : ℕ) → 1 ≤ n → n ≤ length fields
-    → getD (rowAnswers freshDeinterleaver fields) (n - 1) pending ≡ cond (ltb n 12) pending (accepted (rowHeard fields n))
+    → getD (rowAnswers freshDeinterleaver fields) (n - 1) push.pending ≡ cond (ltb n 12) push.pending (push.accepted (rowHeard fields n))
 row-with-12th fields t n one h =
     let stream : ℕ → ℕ = λ i. getD fields i 0 in
     let same : suc (0 + (n - 1)) ≡ n = omega arith in
     rows-at fields 0 (fresh-received stream) t (λ i hi. ap stream (sym (zero-add i))) (n - 1) (omega arith)
-    ∙ ap (λ (k : ℕ). cond (ltb k 12) pending (accepted (rowHeard fields k))) same
+    ∙ ap (λ (k : ℕ). cond (ltb k 12) push.pending (push.accepted (rowHeard fields k))) same

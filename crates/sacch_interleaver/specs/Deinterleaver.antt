@@ -7,7 +7,8 @@ use lib.ListN.{getD, replicate, set}
 use Rattle.bits.specs.Arguments.{belowOf, firstRefusal}
 use Rattle.bits.specs.Numbers.{packed}
 use Rattle.bits.specs.Places.{listed}
-use Rattle.bits.specs.Refusals.{Answer, accepted, pending, refused}
+use Rattle.bits.specs.Pushes.{PushAnswer}
+use Rattle.bits.specs.Pushes as push
 use Rattle.bits.specs.declared.Refusal.the-variants.{State}
 use Rattle.bits.specs.declared.arguments.Arguments.{Arguments}
 use Rattle.bits.specs.declared.arguments.Arguments.the-variants.{Passed, Refused}
@@ -35,18 +36,18 @@ fieldStored d field = record {
 }
 
 -- with twelve received, the row that the newest completes
-unfoldable pub rowFound : SacchDeinterleaver → Answer ℕ
-rowFound d = cond (ltb (d .received) 12) pending (accepted (rowOf (d .fields) (d .cursor)))
+unfoldable pub rowFound : SacchDeinterleaver → PushAnswer ℕ
+rowFound d = cond (ltb (d .received) 12) push.pending (push.accepted (rowOf (d .fields) (d .cursor)))
 
 -- ---- the call: what it answers to document 01, and the deinterleaver after it
 pub record Deinterleaved : Type 0 where
-  pub answer : Answer ℕ
+  pub answer : PushAnswer ℕ
   pub deinterleaver : SacchDeinterleaver
 
-abbrev pub rowAnswer : RowOutcome → Answer ℕ
-rowAnswer outcome.Pending = pending
-rowAnswer (outcome.Row row) = accepted row
-rowAnswer (outcome.Refused why) = refused why
+abbrev pub rowAnswer : RowOutcome → PushAnswer ℕ
+rowAnswer outcome.Pending = push.pending
+rowAnswer (outcome.Row row) = push.accepted row
+rowAnswer (outcome.Refused why) = push.refused why
 
 abbrev pub deinterleaved : PushedRow → Deinterleaved
 deinterleaved p = record { answer = rowAnswer (p .outcome); deinterleaver = p .deinterleaver }
@@ -57,14 +58,14 @@ storedOf d field = record { answer = rowFound (fieldStored d field); deinterleav
 
 -- State, then Symbol where the field is above 4095; both leave the deinterleaver
 abbrev pub pushingRow : Arguments → SacchDeinterleaver → Deinterleaved → Deinterleaved
-pushingRow (Refused why) d m = record { answer = refused why; deinterleaver = d }
+pushingRow (Refused why) d m = record { answer = push.refused why; deinterleaver = d }
 pushingRow Passed d m = m
 
 unfoldable pub pushRowOf : SacchDeinterleaver → ℕ → Deinterleaved
 pushRowOf d field = pushingRow (firstRefusal (cond (deinterleaverFits d) Passed (Refused State)) (belowOf 4096 field)) d (storedOf d field)
 
 -- ---- fields one after the other, counted from 1
-unfoldable pub rowAnswers : SacchDeinterleaver → List ℕ → List (Answer ℕ)
+unfoldable pub rowAnswers : SacchDeinterleaver → List ℕ → List (PushAnswer ℕ)
 rowAnswers d [] = []
 rowAnswers d (field ∷ fields) = pushRowOf d field .answer ∷ rowAnswers (pushRowOf d field .deinterleaver) fields
 

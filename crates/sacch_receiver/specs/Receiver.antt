@@ -3,7 +3,9 @@ use mathlib.Core.Bool.{Bool, true, false, cond, _&&_}
 use Prim.Native.Nat.{ℕ, _+_, _%_, min}
 use lib.Dec.{ltb}
 use lib.ListN.{replicate, set}
-use Rattle.bits.specs.Refusals.{Answer, accepted, pending, rejected, refused}
+use Rattle.bits.specs.Refusals.{Answer, accepted, refused}
+use Rattle.bits.specs.Pushes.{PushAnswer}
+use Rattle.bits.specs.Pushes as push
 use Rattle.bits.specs.Arguments.{firstRefusal, belowOf}
 use Rattle.bits.specs.declared.arguments.Arguments.{Arguments}
 use Rattle.bits.specs.declared.arguments.Arguments.the-variants.{Passed, Refused}
@@ -92,33 +94,26 @@ locked r lock = record {
 }
 
 -- ---- a trial
--- a refusal of rows already stored is a rejection; any other answer stands
-abbrev pub trialAnswer : Answer SacchWord → Answer SacchWord
-trialAnswer (accepted word) = accepted word
-trialAnswer pending = pending
-trialAnswer (rejected why) = rejected why
-trialAnswer (refused why) = rejected why
+-- a word, or a rejection, where the rows are none
+abbrev pub trialAnswer : Answer SacchWord → PushAnswer SacchWord
+trialAnswer (accepted word) = push.accepted word
+trialAnswer (refused why) = push.rejected why
 
-abbrev pub isAccepted : Answer SacchWord → Bool
-isAccepted (accepted word) = true
-isAccepted pending = false
-isAccepted (rejected why) = false
-isAccepted (refused why) = false
-
--- a word sets the lock, anything else drops it
+-- a word sets the lock, a rejection drops it
 abbrev pub trialLock : Answer SacchWord → ℕ → Lock
-trialLock answer phase = cond (isAccepted answer) (Locked phase) Unlocked
+trialLock (accepted word) phase = Locked phase
+trialLock (refused why) phase = Unlocked
 
 -- ---- the calls: what they answer to document 01, and the receiver after them
 pub record Moved : Type 0 where
-  pub answer : Answer SacchWord
+  pub answer : PushAnswer SacchWord
   pub receiver : SacchReceiver
 
-abbrev pub outcomeAnswer : ReceiveOutcome → Answer SacchWord
-outcomeAnswer outcome.Pending = pending
-outcomeAnswer (outcome.Word word) = accepted word
-outcomeAnswer (outcome.Rejected why) = rejected why
-outcomeAnswer (outcome.Refused why) = refused why
+abbrev pub outcomeAnswer : ReceiveOutcome → PushAnswer SacchWord
+outcomeAnswer outcome.Pending = push.pending
+outcomeAnswer (outcome.Word word) = push.accepted word
+outcomeAnswer (outcome.Rejected why) = push.rejected why
+outcomeAnswer (outcome.Refused why) = push.refused why
 
 abbrev pub moved : Pushed → Moved
 moved p = record { answer = outcomeAnswer (p .outcome); receiver = p .receiver }
@@ -126,42 +121,42 @@ moved p = record { answer = outcomeAnswer (p .outcome); receiver = p .receiver }
 -- With eleven rows, and at a phase that the lock allows, the rows are tried.
 unfoldable pub tried : SacchReceiver → ℕ → Moved
 tried r dvcc =
-    cond (ltb (r .available) 11) (record { answer = pending; receiver = r })
+    cond (ltb (r .available) 11) (record { answer = push.pending; receiver = r })
     (cond (tries (r .lock) (r .phase))
     (record {
       answer = trialAnswer (decodeRows (windowOf (r .rows) (r .«row_cursor»)) dvcc);
       receiver = locked r (trialLock (decodeRows (windowOf (r .rows) (r .«row_cursor»)) dvcc) (r .phase));
     })
-    (record { answer = pending; receiver = r }))
+    (record { answer = push.pending; receiver = r }))
 
 -- a field of twelve bits: with twelve received it completes a row, which is stored and tried
 unfoldable pub stepOf : SacchReceiver → ℕ → ℕ → Moved
 stepOf r field dvcc =
-    cond (ltb (fieldTaken r field .received) 12) (record { answer = pending; receiver = fieldTaken r field })
+    cond (ltb (fieldTaken r field .received) 12) (record { answer = push.pending; receiver = fieldTaken r field })
     (tried (rowStored (fieldTaken r field) (rowOf (fieldTaken r field .fields) (fieldTaken r field .«field_cursor»))) dvcc)
 
 -- State, then Symbol where the field is above 4095; both leave the receiver
 abbrev pub pushing : Arguments → SacchReceiver → Moved → Moved
-pushing (Refused why) r m = record { answer = refused why; receiver = r }
+pushing (Refused why) r m = record { answer = push.refused why; receiver = r }
 pushing Passed r m = m
 
 unfoldable pub pushOf : SacchReceiver → ℕ → ℕ → Moved
 pushOf r field dvcc = pushing (firstRefusal (receiverState r) (belowOf 4096 field)) r (stepOf r field dvcc)
 
 -- ---- the wrapper: Pending and rejections alike are nothing
-abbrev pub heardAnswer : Heard → Answer SacchWord
-heardAnswer heard.Nothing = pending
-heardAnswer (heard.Word word) = accepted word
-heardAnswer (heard.Refused why) = refused why
+abbrev pub heardAnswer : Heard → PushAnswer SacchWord
+heardAnswer heard.Nothing = push.pending
+heardAnswer (heard.Word word) = push.accepted word
+heardAnswer (heard.Refused why) = push.refused why
 
 abbrev pub movedWord : PushedWord → Moved
 movedWord p = record { answer = heardAnswer (p .heard); receiver = p .receiver }
 
-abbrev pub wordOnly : Answer SacchWord → Answer SacchWord
-wordOnly (accepted word) = accepted word
-wordOnly pending = pending
-wordOnly (rejected why) = pending
-wordOnly (refused why) = refused why
+abbrev pub wordOnly : PushAnswer SacchWord → PushAnswer SacchWord
+wordOnly (push.accepted word) = push.accepted word
+wordOnly push.pending = push.pending
+wordOnly (push.rejected why) = push.pending
+wordOnly (push.refused why) = push.refused why
 
 unfoldable pub pushWordOf : SacchReceiver → ℕ → ℕ → Moved
 pushWordOf r field dvcc = record { answer = wordOnly (pushOf r field dvcc .answer); receiver = pushOf r field dvcc .receiver }

@@ -2,7 +2,9 @@
 -- What it asks for is in lines/specs/Commands.antt; what the decoders answer, in sacch_receiver/specs and facch/specs/Decoding.antt.
 use mathlib.Core.List.{List}
 use Prim.Native.Nat.{ℕ}
-use Rattle.bits.specs.Refusals.{Answer, accepted, pending, rejected, refused}
+use Rattle.bits.specs.Refusals.{Answer, accepted, refused}
+use Rattle.bits.specs.Pushes.{PushAnswer}
+use Rattle.bits.specs.Pushes as push
 use Rattle.bits.specs.declared.Refusal.the-variants.{Line}
 use Rattle.facch.specs.Decoding.{Content, decodeOf}
 use Rattle.lines.specs.Commands.{parsed}
@@ -17,11 +19,11 @@ use Rattle.sacch_receiver.specs.declared.SacchReceiver.{SacchReceiver}
 use Rattle.session.specs.declared.replies.Replied.{Replied}
 
 -- an `S` line: `P`, `R n` or `W c m k e`
-unfoldable pub sacchReply : Answer SacchWord → Reply
-sacchReply (accepted w) = reply.SacchWord (w .continuation) (w .message) (w .corrected) (w .ending)
-sacchReply pending = reply.Pending
-sacchReply (rejected why) = reply.Refused why
-sacchReply (refused why) = reply.Refused why
+unfoldable pub sacchReply : PushAnswer SacchWord → Reply
+sacchReply (push.accepted w) = reply.SacchWord (w .continuation) (w .message) (w .corrected) (w .ending)
+sacchReply push.pending = reply.Pending
+sacchReply (push.rejected why) = reply.Refused why
+sacchReply (push.refused why) = reply.Refused why
 
 unfoldable pub sacchReplied : SacchReceiver → ℕ → ℕ → Replied
 sacchReplied r dvcc field =

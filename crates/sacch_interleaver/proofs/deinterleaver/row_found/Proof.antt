@@ -2,7 +2,7 @@
 use mathlib.Core.Path.{ap}
 use native.Mathlib.Omega.{arith}
 use borrow.Author.Tests.{lt-ltb, le-ltb}
-use Rattle.bits.specs.Refusals.{accepted}
+use Rattle.bits.specs.Pushes as push
 use Rattle.sacch_interleaver.specs.Deinterleaver.{rowFound}
 use borrow.Author.Needs.{needs}
 use Rattle.sacch_interleaver.proofs.deinterleaver.row_found.Statement.{statement}
@@ -17,7 +17,7 @@ row-of-requires c κs = search needs
 
 returns-2 : tie.Need-returns-2
 unfolding rowFound
-returns-2 c = rw (le-ltb (c .before .before .before .before .args .d .received) 12 (omega arith)) (ap accepted (c .row-of .ensures))
+returns-2 c = rw (le-ltb (c .before .before .before .before .args .d .received) 12 (omega arith)) (ap push.accepted (c .row-of .ensures))
 
 pub row-found-spec : {M : Type 1} → statement M
 row-found-spec = tie.close (tie.spec returns row-of-requires returns-2)
