@@ -43,7 +43,7 @@ unlocks (accepted w) p h = absurd (h w refl)
 unlocks (refused why) p h = refl
 
 word-from : (x : Answer SacchWord) (w : SacchWord) → trialAnswer x ≡ push.accepted w → x ≡ accepted w
-word-from (accepted v) w e = e
+word-from (accepted v) w e = let same : v ≡ w = cc in ap accepted same
 word-from (refused why) w e = let z : _≡_ {A = ℕ} 0 1 = cc in absurd (omega arith)
 
 no-word : (x : Answer SacchWord) (why : Refusal) → trialAnswer x ≡ push.rejected why → (w : SacchWord) → x ≢ accepted w
