@@ -1,8 +1,8 @@
 //! The records of SACCH as the numbers of a stored call. Encoder: memory, twelve rows, cursor.
-//! Receiver: twelve fields, their cursor, how many were received, eleven rows, their cursor, how
+//! Deinterleaver: twelve fields, cursor, how many were received. Receiver: twelve fields, their cursor, how many were received, eleven rows, their cursor, how
 //! many are available, phase, and the locked phase or `UNLOCKED`.
-use crate::phy::sacch::probe::{encoder_state, state};
-use crate::phy::sacch::{SacchEncoder, SacchReceiver};
+use crate::phy::sacch::probe::{deinterleaver_state, encoder_state, state};
+use crate::phy::sacch::{SacchDeinterleaver, SacchEncoder, SacchReceiver};
 use crate::port_sacch::packed;
 
 pub const UNLOCKED: u64 = 256;
@@ -14,6 +14,13 @@ pub fn encoder_numbers(rust: &SacchEncoder) -> Vec<u64> {
 }
 
 /// The original's count of fields goes on; document 01's stops at 12.
+pub fn deinterleaver_numbers(rust: &SacchDeinterleaver) -> Vec<u64> {
+    let (fields, cursor, received) = deinterleaver_state(rust);
+    let fields = packed(fields).map(u64::from);
+    [&fields[..], &[cursor, received.min(12)].map(|n| n as u64)].concat()
+}
+
+/// The count of fields as above.
 pub fn receiver_numbers(rust: &SacchReceiver) -> Vec<u64> {
     let state = state(rust);
     let (fields, rows) = (packed(state.fields), packed(state.rows));

@@ -58,7 +58,10 @@ fn states() {
             refused_state(*port, field);
         }
     }
-    tally.part("refused with 8, and reset all the same", 4 * bad.len() as u64);
+    tally.part(
+        "refused with 8, and reset all the same",
+        4 * bad.len() as u64,
+    );
     let good = Deinterleaver {
         fields: [4095; 12],
         cursor: 11,

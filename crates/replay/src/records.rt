@@ -1,4 +1,4 @@
-// The records of SACCH as numbers of a line. Encoder: memory, twelve rows, cursor. Receiver: twelve fields, their cursor, how many were received, eleven rows,
+// The records of SACCH as numbers of a line. Encoder: memory, twelve rows, cursor. Deinterleaver: twelve fields, cursor, how many were received. Receiver: twelve fields, their cursor, how many were received, eleven rows,
 // their cursor, how many are available, phase, and the locked phase or 100 (256) for none.
 use calls::answers::part;
 use calls::answers::write;
@@ -7,6 +7,7 @@ use calls::arguments::byte_at;
 use calls::arguments::field_at;
 use calls::arguments::put_number;
 use sacch_encoder::SacchEncoder;
+use sacch_interleaver::SacchDeinterleaver;
 use sacch_receiver::Lock;
 use sacch_receiver::SacchReceiver;
 use std::num::wrapping_add_usize;
@@ -35,6 +36,15 @@ pub fn encoder_of(numbers: &[u64], from: usize) -> SacchEncoder {
         memory: byte_at(numbers, from),
         rows,
         cursor: at(numbers, wrapping_add_usize(from, 13)) as usize,
+    }
+}
+
+pub fn deinterleaver_of(numbers: &[u64], from: usize) -> SacchDeinterleaver {
+    let fields = twelve(numbers, from);
+    SacchDeinterleaver {
+        fields,
+        cursor: at(numbers, wrapping_add_usize(from, 12)) as usize,
+        received: at(numbers, wrapping_add_usize(from, 13)) as usize,
     }
 }
 
@@ -110,6 +120,15 @@ pub fn show_encoder(encoder: SacchEncoder, numbers: &[u64], from: usize) {
     now[0] = encoder.memory as u64;
     now[13] = encoder.cursor as u64;
     put(&rows, &mut now, 1);
+    show(&now, numbers, from);
+}
+
+pub fn show_deinterleaver(deinterleaver: SacchDeinterleaver, numbers: &[u64], from: usize) {
+    let fields = deinterleaver.fields;
+    let mut now = [0u64; 14];
+    now[12] = deinterleaver.cursor as u64;
+    now[13] = deinterleaver.received as u64;
+    put(&fields, &mut now, 0);
     show(&now, numbers, from);
 }
 

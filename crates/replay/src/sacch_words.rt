@@ -1,9 +1,11 @@
-// SACCH: words, and the records of encoder and receiver, which are numbers of a line.
+// SACCH: words, and the records of encoder, deinterleaver and receiver, which are numbers of a line.
 use crate::lent::lent;
+use crate::records::deinterleaver_of;
 use crate::records::encoder_of;
 use crate::records::print_numbers;
 use crate::records::put;
 use crate::records::receiver_of;
+use crate::records::show_deinterleaver;
 use crate::records::show_encoder;
 use crate::records::show_receiver;
 use calls::answers::Answer;
@@ -26,6 +28,8 @@ use sacch_decoder::Decoded;
 use sacch_decoder::SacchWord;
 use sacch_encoder::EncodedField;
 use sacch_encoder::EncodedWord;
+use sacch_interleaver::PushedRow;
+use sacch_interleaver::RowOutcome;
 use sacch_receiver::Heard;
 use sacch_receiver::Pushed;
 use sacch_receiver::PushedWord;
@@ -124,6 +128,37 @@ fn encoder_call(call: &[u8], counts: usize, numbers: &[u64]) -> bool {
     false
 }
 
+fn of_row(outcome: RowOutcome) -> Answer {
+    match outcome {
+        RowOutcome::Pending => said(Kind::Pending, 0, [0; 5]),
+        RowOutcome::Row(row) => one(Kind::Value, row as u64),
+        RowOutcome::Refused(why) => refused(why),
+    }
+}
+
+fn show_row(pushed: PushedRow, numbers: &[u64]) {
+    let outcome = pushed.outcome;
+    let deinterleaver = pushed.deinterleaver;
+    print(of_row(outcome));
+    show_deinterleaver(deinterleaver, numbers, 1);
+}
+
+// `deinterleave FIELD` and `reset_deinterleaver`, each before a deinterleaver.
+fn deinterleaver_call(call: &[u8], counts: usize, numbers: &[u64]) -> bool {
+    if asks(b"deinterleave", call, counts, 1500) {
+        let deinterleaver = deinterleaver_of(numbers, 1);
+        show_row(deinterleaver.push(field_at(numbers, 0)), numbers);
+        return true;
+    }
+    if asks(b"reset_deinterleaver", call, counts, 1400) {
+        let deinterleaver = deinterleaver_of(numbers, 0);
+        write(b"done");
+        show_deinterleaver(deinterleaver.reset(), numbers, 0);
+        return true;
+    }
+    false
+}
+
 // `pushed FIELD DVCC`, so for `push_outcome` and `push`, and `discontinuity`, each before a receiver.
 fn receiver_call(call: &[u8], counts: usize, numbers: &[u64]) -> bool {
     let field = field_at(numbers, 0);
@@ -154,6 +189,9 @@ fn receiver_call(call: &[u8], counts: usize, numbers: &[u64]) -> bool {
 // The calls over records print their answers themselves.
 pub fn over_record(call: &[u8], counts: usize, numbers: &[u64]) -> bool {
     if encoder_call(call, counts, numbers) {
+        return true;
+    }
+    if deinterleaver_call(call, counts, numbers) {
         return true;
     }
     receiver_call(call, counts, numbers)

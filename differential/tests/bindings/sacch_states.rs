@@ -77,10 +77,7 @@ fn deinterleavers() {
         }
     }
     let bad = bad_received(&mut p, 13);
-    assert_eq!(
-        port::SacchDeinterleaver::try_from(bad),
-        Err(Refusal::State)
-    );
+    assert_eq!(port::SacchDeinterleaver::try_from(bad), Err(Refusal::State));
     tally.part("500 lists from any state", 15_000);
     tally.end();
 }

@@ -3,10 +3,10 @@
 use crate::arguments::Line;
 use crate::calls::window_text;
 use crate::told::refused_text;
-use differential::phy::sacch::probe::{State, encoder, receiver};
-use differential::phy::sacch::{ReceiveOutcome, SacchEncoder, SacchReceiver};
+use differential::phy::sacch::probe::{State, deinterleaver, encoder, receiver};
+use differential::phy::sacch::{ReceiveOutcome, SacchDeinterleaver, SacchEncoder, SacchReceiver};
 use differential::port_sacch::{number, refusal, unpacked};
-use differential::records::{UNLOCKED, encoder_numbers, receiver_numbers};
+use differential::records::{UNLOCKED, deinterleaver_numbers, encoder_numbers, receiver_numbers};
 
 const MESSAGES: u64 = 1 << 48;
 
@@ -19,6 +19,8 @@ pub fn over_record(line: &Line) -> Option<String> {
         "encode_bits" => Some(encode_bits(numbers[0], &numbers[1..])),
         "encode_word" => Some(encode_word(line, &numbers[3..])),
         "reset" => Some(format!("done{}", became(numbers, &[0; 14]))),
+        "deinterleave" => Some(deinterleave(numbers[0], &numbers[1..])),
+        "reset_deinterleaver" => Some(format!("done{}", became(numbers, &[0; 14]))),
         "pushed" | "push_outcome" => Some(pushed(line, &numbers[2..])),
         "push" => Some(push(line, &numbers[2..])),
         "discontinuity" => {
@@ -91,6 +93,28 @@ fn encode_word(line: &Line, before: &[u64]) -> String {
         "done sent{fields}{}",
         became(before, &encoder_numbers(&rust))
     )
+}
+
+/// The deinterleaver of a line, where it is within its bounds: fields, cursor, received.
+fn deinterleaver_of(numbers: &[u64]) -> Option<SacchDeinterleaver> {
+    let within = numbers[..12].iter().all(|n| *n < 4096) && numbers[12] < 12 && numbers[13] <= 12;
+    let at = |k: usize| numbers[k] as usize;
+    within.then(|| deinterleaver((rows(&numbers[..12]), at(12), at(13))))
+}
+
+fn deinterleave(field: u64, before: &[u64]) -> String {
+    let refused = |number| format!("{} kept", refused_text(number, 0, 0));
+    let Some(mut rust) = deinterleaver_of(before) else {
+        return refused(8);
+    };
+    if field > 4095 {
+        return refused(2);
+    }
+    let said = match rust.push(unpacked(field)) {
+        None => "pending".into(),
+        Some(row) => format!("value {:x}", number(&row)),
+    };
+    format!("{said}{}", became(before, &deinterleaver_numbers(&rust)))
 }
 
 /// The receiver of a line, where it is within its bounds: fields, their cursor, received; rows,

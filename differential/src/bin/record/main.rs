@@ -7,6 +7,7 @@ mod coding;
 mod corners;
 mod facch;
 mod receivers;
+mod rows;
 mod sacch;
 mod speech;
 
@@ -23,6 +24,7 @@ fn main() {
     receivers::calls(&mut p);
     speech::vselp(&mut p);
     speech::acelp(&mut p);
+    rows::calls(&mut p);
 }
 
 /// A heading, which both files have.
