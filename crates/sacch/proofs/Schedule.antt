@@ -1,19 +1,22 @@
 -- When a fresh receiver tries: it has no row before the twelfth field and not eleven before the 22nd, and from there its lock decides. Assumes nothing.
 use mathlib.Core.Path.{_≡_, refl, sym, _∙_, ap}
 use mathlib.Core.List.{List}
+use mathlib.Core.Logic.{_⊎_, inl, inr}
 use Prim.Native.Nat.{ℕ, zero, suc, _+_, _-_, _≤_, _<_, min}
 use native.Mathlib.Decide.{decLt}
 use native.Mathlib.Omega.{arith}
 use lib.ListN.{getD, length}
 use Rattle.bits.specs.Bits.{allBelow}
-use Rattle.bits.specs.Refusals.{Answer}
+use Rattle.bits.specs.Places.{listed}
+use Rattle.bits.specs.Refusals.{Answer, accepted, refused}
 use Rattle.bits.specs.Pushes.{PushAnswer}
 use Rattle.bits.specs.Pushes as push
+use Rattle.bits.specs.declared.Refusal.{Refusal}
 use Rattle.bits.proofs.Listed.{listed-same}
 use Rattle.sacch_interleaver.specs.Diagonal.{bitOf}
 use Rattle.sacch_interleaver.proofs.Diagonal.{twelve-same}
 use Rattle.sacch_decoder.specs.declared.SacchWord.{SacchWord}
-use Rattle.sacch_interleaver.specs.Deinterleaver.{deinterleaverFits, fieldStored}
+use Rattle.sacch_interleaver.specs.Deinterleaver.{deinterleaverFits, fieldStored, rowHeard}
 use Rattle.sacch_receiver.specs.Receiver.{freshReceiver, receiverFits, withFields, fieldTaken, rowStored, locked, trialAnswer, tried, stepOf, Moved}
 use Rattle.sacch_receiver.specs.Stored.{decodeRows}
 use Rattle.sacch_receiver.specs.declared.SacchReceiver.{SacchReceiver}
@@ -26,6 +29,15 @@ use Rattle.sacch.proofs.Fitting.{Fitting}
 use Rattle.sacch.proofs.Trials.{Locking, trial-answer, free, rejection-unlocks, word-waits, word-eleven}
 use Rattle.sacch.proofs.ReceiverRun.{rowed, step-waits, tried-waits, receiverAt, at-received, late-step, late-next, late-available, window, trials-run}
 use Rattle.sacch.proofs.Pushes.{answers-at, fields-below}
+
+-- a trial ends in a word or in a rejection, so that a schedule settles every answer
+ends : (x : Answer SacchWord) → ((w : SacchWord) × (trialAnswer x ≡ push.accepted w)) ⊎ ((why : Refusal) × (trialAnswer x ≡ push.rejected why))
+ends (accepted w) = inl (w, refl)
+ends (refused why) = inr (why, refl)
+
+pub trial-ends : (dvcc : ℕ) (fields : List ℕ) (n : ℕ)
+    → ((w : SacchWord) × (trialHeard dvcc fields n ≡ push.accepted w)) ⊎ ((why : Refusal) × (trialHeard dvcc fields n ≡ push.rejected why))
+trial-ends dvcc fields n = ends (decodeRows (listed 11 (λ (i : ℕ). rowHeard fields (n - 10 + i))) dvcc)
 
 fresh-fits : Fitting freshReceiver
 unfolding freshReceiver receiverFits deinterleaverFits allBelow
