@@ -5,7 +5,8 @@ mod encoding;
 mod places;
 mod table;
 
-use bits::Refusal;
+pub use bits::Refusal;
+pub use bits::Wrote;
 pub use decoding::decode;
 pub use encoding::encode;
 

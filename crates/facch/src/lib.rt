@@ -4,7 +4,8 @@ mod search;
 mod word;
 
 pub use crate::word::encode;
-use bits::Refusal;
+pub use bits::Refusal;
+pub use bits::Wrote;
 pub use decoding::decode;
 pub use decoding::decode_erased;
 pub use facch_interleaver::WordHalf;

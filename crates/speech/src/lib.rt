@@ -6,7 +6,8 @@ mod encoding;
 mod inputs;
 mod ranges;
 
-use bits::Refusal;
+pub use bits::Refusal;
+pub use bits::Wrote;
 pub use decoding::decode_candidate;
 pub use encoding::encode;
 
