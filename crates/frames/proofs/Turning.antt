@@ -7,7 +7,6 @@ use Prim.Native.Nat.{ℕ, zero, suc, _+_, _≤_}
 use native.Mathlib.Omega.{arith}
 use lib.IntN.{pos}
 use lib.ListN.{length, getD, replicate, length-replicate, take}
-use Rattle.io.specs.Counts.{clamped}
 use Rattle.text.specs.Writing.{Put}
 use Rattle.session.specs.declared.Fed.{Fed}
 use Rattle.session.specs.declared.Session.{Session}
@@ -21,7 +20,7 @@ use Rattle.frames.specs.declared.Turn.{Turn}
 use Rattle.frames.specs.declared.streams.Next.{Next}
 use Rattle.frames.specs.declared.streams.Next.the-variants.{Read, Finish, Fail}
 use Rattle.frames.specs.declared.streams.Sent.{Sent}
-use Rattle.frames.specs.Streams.{FirstSent, goesOn, nextOf}
+use Rattle.frames.specs.Streams.{FirstSent, Received, goesOn, nextOf}
 use Rattle.frames.specs.Turns.{AllWritten, Answered, Concluded, Listened, TotalsWritten, Turned, Turns}
 use Rattle.frames.specs.Turns.Turns.{first, more}
 use Rattle.frames.proofs.Deciding.{off-reads-not, on-reads}
@@ -46,20 +45,20 @@ start-fits {s} {line} {counts} e long z =
     subst (λ (x : Session). SessionFits x line counts) (sym e) (subst (λ (x : List ℕ). SessionFits begun line x) (sym z) (begun-fits line long))
 
 -- ---- a turn
-module _ {s : Session} {buffer line line′ counts counts′ out out′ : List ℕ} {t : Turn} where
-  pub piece-answered : (n : ℕ) (f : Fed) → n ≡ clamped (t .got .answer) (length buffer) → PieceFed s (take n buffer) line line′ counts counts′ out out′ f
-      → f .session ≡ t .session → f .at ≤ length out′ → t .got .from ≡ pos 0 → FirstSent (pos 1) (f .at) (t .sent) → t .next ≡ nextOf (t .got .answer) (t .sent .whole) (t .session .left)
-      → Answered s buffer line line′ counts counts′ out out′ t
-  piece-answered n f e p same room from sent next =
-      record {
-        fed = subst (λ (m : ℕ). PieceFed s (take m buffer) line line′ counts counts′ out out′ (record { session = t .session; at = t .sent .bytes })) e
-            (subst (λ (k : ℕ). PieceFed s (take n buffer) line line′ counts counts′ out out′ (record { session = t .session; at = k })) (sym (sent .bytes))
-            (subst (λ (x : Session). PieceFed s (take n buffer) line line′ counts counts′ out out′ (record { session = x; at = f .at })) same p));
-        room = subst (λ (k : ℕ). k ≤ length out′) (sym (sent .bytes)) room;
-        from = from;
-        to = sent .to;
-        next = next;
-      }
+pub piece-answered : {s : Session} {buffer line line′ counts counts′ out out′ : List ℕ} {t : Turn} (f : Fed) → Received (pos 0) buffer (t .got)
+    → PieceFed s (take (t .got .bytes) buffer) line line′ counts counts′ out out′ f → f .session ≡ t .session → f .at ≤ length out′
+    → FirstSent (pos 1) (f .at) (t .sent) → t .next ≡ nextOf (t .got .answer) (t .sent .whole) (t .session .left)
+    → Answered s buffer line line′ counts counts′ out out′ t
+piece-answered {s} {buffer} {line} {line′} {counts} {counts′} {out} {out′} {t} f got p same room sent next =
+    record {
+      fed = subst (λ (m : ℕ). PieceFed s (take m buffer) line line′ counts counts′ out out′ (record { session = t .session; at = t .sent .bytes })) (got .bytes)
+          (subst (λ (k : ℕ). PieceFed s (take (t .got .bytes) buffer) line line′ counts counts′ out out′ (record { session = t .session; at = k })) (sym (sent .bytes))
+          (subst (λ (x : Session). PieceFed s (take (t .got .bytes) buffer) line line′ counts counts′ out out′ (record { session = x; at = f .at })) same p));
+      room = subst (λ (k : ℕ). k ≤ length out′) (sym (sent .bytes)) room;
+      from = got .from;
+      to = sent .to;
+      next = next;
+    }
 
 -- ---- the totals
 pub totals-written : {s : Session} {line counts out out′ : List ℕ} {totals : Sent} {k : ℕ} → Put out 0 (endText (viewOf s line counts)) out′ k → k ≤ length out′

@@ -8,11 +8,19 @@ use Prim.Native.String.{String, [] as empty, _∷_ as _then_}
 use lib.Dec.{eqb}
 use lib.ListN.{length}
 use lib.IntN.{ℤ, pos, negsuc}
+use Rattle.io.specs.Counts.{Counts, clamped}
+use Rattle.frames.specs.declared.streams.Got.{Got}
 use Rattle.frames.specs.declared.streams.Sent.{Sent}
 use Rattle.frames.specs.declared.streams.Next.{Next}
 use Rattle.frames.specs.declared.streams.Next.the-variants.{Read, Finish, Fail}
 
--- ---- writing
+-- ---- reading and writing
+-- a read from a descriptor: as many bytes of the buffer count as it answered, none where it failed
+pub record Received (descriptor : ℤ) (buffer : List ℕ) (r : Got) : Type 0 where
+  pub from : r .from ≡ descriptor
+  pub bytes : r .bytes ≡ clamped (r .answer) (length buffer)
+  pub within : Counts (r .bytes) buffer
+
 -- so many bytes of a buffer, from the first on, were handed to a descriptor
 pub record FirstSent (descriptor : ℤ) (count : ℕ) (r : Sent) : Type 0 where
   pub to : r .to ≡ descriptor

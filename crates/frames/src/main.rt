@@ -5,7 +5,6 @@ mod streams;
 use crate::streams::Got;
 use crate::streams::Next;
 use crate::streams::Sent;
-use crate::streams::bytes_read;
 use crate::streams::decide;
 use crate::streams::goes_on;
 use crate::streams::nothing_sent;
@@ -67,7 +66,7 @@ fn answer_piece(
     ensures { λ r. ⌜ (16384 ≡ length (now (piece .exit))) × (409600 ≡ length (now (out .exit))) ⌝ }
 {
     let got = read_once(STDIN_FILENO, piece);
-    let n = bytes_read(got, piece);
+    let n = got.bytes;
     let fed = feed(session, &piece[..n], line, counts, out);
     let after = fed.session;
     let sent = write_first(STDOUT_FILENO, out, fed.at);

@@ -6,14 +6,13 @@ ghost use mathlib.Core.Bool.{not};
 ghost use Prim.Native.Nat.{_≤_};
 ghost use lib.Dec.{eqb};
 ghost use lib.ListN.{length};
-ghost use Rattle.io.specs.Counts.{Counts, clamped};
-ghost use Rattle.libc.specs.Io.{Moved};
-ghost use Rattle.frames.specs.Streams.{FirstSent, Message, Told, complete, failureText, goesOn, leftText, nextOf, nothingSent};
+ghost use Rattle.frames.specs.Streams.{FirstSent, Message, Received, Told, complete, failureText, goesOn, leftText, nextOf, nothingSent};
 
-// What a read from a descriptor answered: -1, or how many bytes it put at the start of the buffer.
+// What a read from a descriptor answered: -1, or how many bytes it put at the start of the buffer; and how many of the buffer count as read.
 pub struct Got {
     from: i32,
     answer: isize,
+    pub bytes: usize,
 }
 
 // What a descriptor was handed: so many bytes of a buffer, from the first on; and whether it took all of them.
@@ -31,18 +30,15 @@ pub enum Next {
 }
 
 pub fn read_once(from: i32, piece: &mut [u8]) -> Got
-    ensures { λ r. ⌜ (r .from ≡ from) × Moved (length (now (piece .entry))) (r .answer) ⌝ }
+    ensures { λ r. ⌜ Received from (now (piece .exit)) r ⌝ }
 {
     let answer = libc::read(from, piece);
-    Got { from, answer }
-}
-
-// How many bytes of the buffer count as read.
-pub fn bytes_read(got: Got, piece: &[u8]) -> usize
-    ensures { λ r. ⌜ Counts r (now (piece .entry)) ⌝ }
-    ensures { λ r. ⌜ r ≡ clamped (got .answer) (length (now (piece .entry))) ⌝ }
-{
-    io::count(got.answer, piece)
+    let bytes = io::count(answer, piece);
+    Got {
+        from,
+        answer,
+        bytes,
+    }
 }
 
 pub fn write_first(to: i32, buffer: &[u8], bytes: usize) -> Sent

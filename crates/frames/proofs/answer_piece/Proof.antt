@@ -8,9 +8,6 @@ use Rattle.frames.proofs.answer_piece.Tie as tie
 read-once-requires : tie.Need-read-once-requires
 read-once-requires c κs = search needs
 
-bytes-read-requires : tie.Need-bytes-read-requires
-bytes-read-requires c κs = search needs
-
 slice-reshare-prefix-feed : tie.Need-slice-reshare-prefix-feed
 slice-reshare-prefix-feed c = search needs
 
@@ -41,12 +38,10 @@ same-length-4 c = search needs
 returns : tie.Need-returns
 returns c =
     let to-feed = c .before .before .before .before .before .before .before .before .before .before in
-    let to-count = to-feed .before .before .before .before .before in
-    let to-read = to-count .before .before .before .before in
+    let to-read = to-feed .before .before .before .before .before .before .before in
     let entry = to-read .before .before .before .before .before .before in
     let f = to-feed .feed .ensures in (
-      piece-answered (to-count .bytes-read .result) (to-feed .feed .result) (to-count .bytes-read .ensures .1) (f .0) refl (f .1)
-          (to-read .read-once .ensures .0) (c .before .write-first .ensures) (c .decide .ensures),
+      piece-answered (to-feed .feed .result) (to-read .read-once .ensures) (f .0) refl (f .1) (c .before .write-first .ensures) (c .decide .ensures),
       (entry .pre .1 ∙ sym (same-length c), entry .pre .2 ∙ sym (f .0 .text .kept)),
     )
 
@@ -55,7 +50,6 @@ answer-piece-spec =
     tie.close
     (tie.spec
     read-once-requires
-    bytes-read-requires
     slice-reshare-prefix-feed
     slice-aggregate-feed
     feed-requires
