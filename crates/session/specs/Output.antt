@@ -1,5 +1,5 @@
 -- The program `frames` (document 01, 'The line program `frames`'): what it writes for an input of any bytes is `output`, the last definition here.
--- What a line is answered is in replies/specs, how answers are written in printing/specs, the totals and the closing lines in totals/specs.
+-- What a line is answered is in Replies.antt, how answers are written in lines/specs/Printing.antt, the totals and the closing lines in Totals.antt.
 use mathlib.Core.Bool.{cond}
 use mathlib.Core.List.{List, [], _∷_, _++_}
 use Prim.Native.Nat.{ℕ, _+_}
