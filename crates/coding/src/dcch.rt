@@ -11,9 +11,9 @@ ghost use Rattle.coding.specs.Registers.{memoryHigh, Stepped};
 ghost use Rattle.coding.specs.Runs.{Encoded};
 
 // IS-136.2-A 2.1.3.3.3.4, the newest input highest.
-const G0: u8 = 0o65;
+pub const G0: u8 = 0o65;
 
-const G1: u8 = 0o57;
+pub const G1: u8 = 0o57;
 
 pub struct Step {
     pub next: u8,

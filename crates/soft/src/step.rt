@@ -3,6 +3,8 @@
 use crate::reliability::abs;
 use crate::reliability::infinity;
 use bits::wide;
+use coding::dcch::G0;
+use coding::dcch::G1;
 use coding::register::parity;
 ghost use mathlib.Core.Path.{_≡_};
 ghost use Prim.Native.Nat.{ℕ, _<_};
@@ -10,11 +12,6 @@ ghost use lib.Ieee.{nan};
 ghost use lib.ListN.{getD};
 ghost use Rattle.soft.specs.Reliability.{bitCost};
 ghost use Rattle.soft.specs.Step.{Advanced, Branched, OutputsTo, PairCosts, Selected, chosenOf, lesserOf, storedOf};
-
-// IS-136.2-A 2.1.3.3.3.4, the newest input highest.
-const G0: u8 = 0o65;
-
-const G1: u8 = 0o57;
 
 // The path metrics after a step, and a predecessor byte for each state.
 pub struct Column {
