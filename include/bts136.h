@@ -5,8 +5,8 @@
  * Bits are bytes 0 and 1, first sent first. A slice is a pointer and its length: the pointer is to as many elements as the length says,
  * and may be null where that is 0; slices of one call do not overlap. Where a length is not the right one nothing is read, so that a
  * wrong length is refused and no crash. The library allocates nothing, keeps no pointer and has no state of its own: it may be called
- * from any thread. No call takes more than 20,000 bytes of stack. The slowest, a FACCH word of noise, takes some 20 microseconds on one
- * core of an x86-64 machine; every other call 4 or less. `dvcc` is the colour code, any byte. `broadcast` says that the checksum is
+ * from any thread. No call takes more than 20,000 bytes of stack. The slowest, a FACCH word of noise, takes up to some 20 microseconds on
+ * one core of an x86-64 machine; every other call 5 or less. `dvcc` is the colour code, any byte. `broadcast` says that the checksum is
  * complemented.
  *
  * Every call answers any input. `refusal` is 0 where it is accepted, else a number of `enum bts136_refusal`. What is wrong is looked

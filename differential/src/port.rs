@@ -1,5 +1,5 @@
 //! The port's calls on steps, checksums, searches and DCCH blocks, as the crate in `rust/` has them:
-//! bits are bytes of 0 or 1, and a refusal is 0 or a number of the scope's table.
+//! bits are bytes of 0 or 1, and a refusal is 0 or a number of document 01.
 use crate::phy::dcch::BlockFormat;
 use bindings::flat;
 pub use bindings::flat::{acelp_transition, dcch_transition, facch_transition};

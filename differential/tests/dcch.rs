@@ -147,7 +147,7 @@ fn other_channels() {
     tally.end();
 }
 
-/// The scope's corners, with its numbers.
+/// Document 01's corners, with its numbers.
 #[test]
 fn zeros() {
     let mut tally = Tally::new("DCCH, blocks of zeros");

@@ -152,7 +152,7 @@ fn least_cost() {
     tally.end();
 }
 
-/// The scope's corners, with its numbers.
+/// Document 01's corners, with its numbers.
 #[test]
 fn corners() {
     let mut tally = Tally::new("DCCH soft decode, corners");

@@ -166,7 +166,7 @@ fn between_two() {
     tally.end();
 }
 
-/// The scope's corners, with its numbers.
+/// Document 01's corners, with its numbers.
 #[test]
 fn corners() {
     let mut tally = Tally::new("FACCH decode, corners");

@@ -1,4 +1,4 @@
-//! What the original does where the scope's paper says otherwise: each entry of
+//! What the original does where document 01 says otherwise: each entry of
 //! docs/DIFFERENCES.md that the Rust can show, with its input.
 use differential::codec::mr74::Parameters;
 use differential::phy::dcch::{BlockFormat, CrcMode, probe};

@@ -60,7 +60,7 @@ exitOf r speech = record { answer = decodeAnswer r; speech = speech }
 abbrev pub refusedExit : Refusal → List ℕ → Exit
 refusedExit why speech = record { answer = refused why; speech = speech }
 
--- the class-one bits of inputs that have so many disagreements with class two as received, in the codec's order
+-- the class-one bits of inputs that have so many disagreements, and class two as received, in the codec's order
 unfoldable pub acceptedExit : List ℕ → List Bool → ℕ → Exit
 acceptedExit frame inputs corrected = record {
   answer = accepted (record { valid = inputsValid inputs; corrected = corrected });

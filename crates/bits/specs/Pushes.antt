@@ -1,4 +1,4 @@
--- What a push to a receiver answers.
+-- What a push to a receiver or a deinterleaver answers.
 use Rattle.bits.specs.declared.Refusal.{Refusal}
 
 -- A result, Pending where more must come first, Rejected, where the receiver has moved all the same, or a refusal, where nothing has.

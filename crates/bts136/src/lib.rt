@@ -20,7 +20,6 @@ ghost use Rattle.viterbi.specs.Hard.{freeWeight, weight};
 ghost use Rattle.flat_coding.specs.Flat.{StepAnswer, flatChecksum, modeOf};
 ghost use Rattle.flat_coding.specs.FlatSearch.{SearchAnswer};
 
-// One step of the code of DCCH, SACCH and VSELP.
 // One step of the code of DCCH, SACCH and VSELP, with 2 coded bits. Refused: 8 for a state above 31, then 2 for an input above 1.
 #[no_mangle]
 pub extern "C" fn bts136_dcch_transition(state: u8, input: u8) -> Step
@@ -29,7 +28,6 @@ pub extern "C" fn bts136_dcch_transition(state: u8, input: u8) -> Step
     flat_coding::dcch_transition(state, input)
 }
 
-// One step of the code of FACCH.
 // One step of the code of FACCH, with 4 coded bits. Refused as above.
 #[no_mangle]
 pub extern "C" fn bts136_facch_transition(state: u8, input: u8) -> Step
@@ -38,7 +36,6 @@ pub extern "C" fn bts136_facch_transition(state: u8, input: u8) -> Step
     flat_coding::facch_transition(state, input)
 }
 
-// One step of the code of ACELP CC1.
 // One step of the code of ACELP CC1, with 2 coded bits. Refused as above.
 #[no_mangle]
 pub extern "C" fn bts136_acelp_transition(state: u8, input: u8) -> Step
@@ -47,7 +44,6 @@ pub extern "C" fn bts136_acelp_transition(state: u8, input: u8) -> Step
     flat_coding::acelp_transition(state, input)
 }
 
-// The 16-bit checksum of information under a colour code, complemented for broadcast.
 // The 16-bit checksum of any number of bits under a colour code. Refused: 2.
 #[no_mangle]
 pub extern "C" fn bts136_checksum(information: &[u8], dvcc: u8, broadcast: bool) -> Checksum
@@ -56,7 +52,6 @@ pub extern "C" fn bts136_checksum(information: &[u8], dvcc: u8, broadcast: bool)
     flat_coding::checksum16(information, dvcc, broadcast)
 }
 
-// The 7-bit checksum of a speech frame's information.
 // The 7-bit checksum of any number of a speech frame's bits. Refused: 2.
 #[no_mangle]
 pub extern "C" fn bts136_checksum7(information: &[u8]) -> Checksum
@@ -65,7 +60,6 @@ pub extern "C" fn bts136_checksum7(information: &[u8]) -> Checksum
     flat_coding::checksum7(information)
 }
 
-// The nearest word that ends in five zeros, from state 0, and its disagreements: the bare search of DCCH.
 // The nearest word from state 0 that ends in five zeros: the search of DCCH. coded has 10 to 260 bits, an even number; word gets half as many. Of words
 // equally near, it is the one with a zero at the last place where they differ. Refused: 1 (expected is 260 where coded is wrong), 2.
 #[no_mangle]
@@ -75,7 +69,6 @@ pub extern "C" fn bts136_viterbi(coded: &[u8], word: &mut [u8]) -> Search
     flat_coding::search::terminated(coded, word)
 }
 
-// A nearest word over all 32 starting memories: the bare search of SACCH.
 // A nearest word over all 32 starting memories: the search of SACCH. Which of equally near ones is not said. Lengths and refusals as above.
 #[no_mangle]
 pub extern "C" fn bts136_viterbi_free(coded: &[u8], word: &mut [u8]) -> Search

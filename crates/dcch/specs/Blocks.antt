@@ -1,4 +1,4 @@
--- Encoding and decoding of a block (IS-136.1-A 4.4.3 and 5.2.6).
+-- Encoding and decoding of a block (IS-136.1-A 4.4.3 and 5.2.6). A word is its inputs, newest first; the inputs of a block are oldest first.
 use mathlib.Core.Path.{_≡_}
 use mathlib.Core.Bool.{Bool, true, false}
 use mathlib.Core.List.{List, _++_, reverse}

@@ -1,4 +1,4 @@
--- Decoding of a block of reliabilities. The Rust decides the arithmetic: soft/specs/Soft.antt.
+-- Decoding of a block of reliabilities. The Rust decides the arithmetic: soft/specs/Soft.antt. A word is its inputs, newest first; the inputs of a block are oldest first.
 use mathlib.Core.Path.{_≡_}
 use mathlib.Core.Bool.{Bool, true, false}
 use mathlib.Core.List.{List, reverse}

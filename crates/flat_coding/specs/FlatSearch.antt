@@ -15,7 +15,7 @@ use Rattle.bits.specs.declared.arguments.Arguments.{Arguments}
 use Rattle.bits.specs.declared.arguments.Arguments.the-variants.{Passed, Refused}
 
 -- ---- a search
--- Length where a length is no number of pairs from 5 to 130
+-- Length unless a length is even and from 10 to 260: 5 to 130 pairs
 unfoldable pub pairArguments : ℕ → Arguments
 pairArguments n = cond (ltb n 10) (exactOf 260 n) (cond (ltb 260 n) (exactOf 260 n) (cond (eqb (n % 2) 1) (exactOf 260 n) Passed))
 
@@ -26,7 +26,7 @@ searchArguments coded steps = firstRefusal (pairArguments (length coded)) (first
 abbrev pub noSearch : Refusal → Search
 noSearch why = record { refusal = numberOf why; expected = expectedOf why; actual = actualOf why; metric = 0; tie = false }
 
--- the answer of a search over n steps, of which Finds says what it finds; a refused call writes nothing
+-- the answer of a search, of which Finds says what it finds; a refused call writes nothing
 pub record SearchAnswer (Finds : List ℕ → Outcome → Type 0) (coded word₀ word : List ℕ) (r : Search) : Type 0 where
   pub no-search : (why : Refusal) → searchArguments coded (length word₀) ≡ Refused why → (r ≡ noSearch why) × (word ≡ word₀)
   pub searched : searchArguments coded (length word₀) ≡ Passed → (r .refusal ≡ 0) × (r .expected ≡ 0) × (r .actual ≡ 0) × Finds word (record { metric = r .metric; tie = r .tie })

@@ -89,10 +89,11 @@ flatReceiver s = record {
   lock = lockByte (s .lock);
 }
 
--- an answer: Pending, a word, a rejection or a refusal
+-- an answer without a word
 abbrev pub noWordPushed : ℕ → ℕ → Receiver → Pushed
 noWordPushed kind refusal r = record { kind = kind; refusal = refusal; continuation = false; message = 0; corrected = 0; ending = 0; receiver = r }
 
+-- an answer: Pending, a word, a rejection or a refusal
 abbrev pub flatAnswer : PushAnswer SacchWord → Receiver → Pushed
 flatAnswer push.pending r = noWordPushed 0 0 r
 flatAnswer (push.accepted w) r =

@@ -94,7 +94,7 @@ locked r lock = record {
 }
 
 -- ---- a trial
--- a word, or a rejection, where the rows are none
+-- a word, or a rejection where the rows decode to no word
 abbrev pub trialAnswer : Answer SacchWord → PushAnswer SacchWord
 trialAnswer (accepted word) = push.accepted word
 trialAnswer (refused why) = push.rejected why

@@ -1,4 +1,4 @@
--- What the functions do, in these terms.
+-- What the functions of the session do, in the terms of Scanning.antt.
 use mathlib.Core.Path.{_≡_}
 use mathlib.Core.List.{List, [], _++_}
 use Prim.Native.Nat.{ℕ, _+_, _-_, _*_, _≤_}

@@ -1,4 +1,4 @@
--- The same byte by byte: what the input so far leaves behind, and what each byte has written. The law `whole` says that it comes to `output`.
+-- The output of Output.antt byte by byte: what the input so far leaves behind, and what each byte has written. The law `whole` says that it comes to `output`.
 use mathlib.Core.Bool.{cond}
 use mathlib.Core.List.{List, [], _∷_, _++_}
 use Prim.Native.Nat.{ℕ, _-_}

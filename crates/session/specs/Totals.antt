@@ -32,7 +32,7 @@ summed a b = record { words = a .words + b .words; corrected = a .corrected + b 
 unfoldable pub counted : List ℕ → ℕ → ℕ → List ℕ
 counted counts dvcc words = set counts dvcc (getD counts dvcc 0 + words)
 
--- what one answer adds
+-- the bounds of what one answer adds
 pub record OneAnswer (t : Tally) : Type 0 where
   pub one : t .words ≤ 1
   pub corrected : t .corrected ≤ 65535 * t .words

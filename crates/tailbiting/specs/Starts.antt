@@ -34,6 +34,6 @@ pub record Tried (first k : ℕ) (u : List Bool) : Type 0 where
 unfoldable pub betterOf : Outcome → Outcome → Outcome
 betterOf best run = cond (ltb (run .metric) (best .metric)) run (cond (ltb (best .metric) (run .metric)) best (record { metric = best .metric; tie = true }))
 
--- and its word
+-- and its word: `word` is that of the run, `inputs` that of the best so far
 unfoldable pub keptOf : Outcome → Outcome → List ℕ → List ℕ → List ℕ
 keptOf best run word inputs = cond (ltb (run .metric) (best .metric)) word inputs

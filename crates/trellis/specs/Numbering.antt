@@ -13,7 +13,7 @@ pub record Numbering : Type 0 where
   pub oldest : ℕ → Bool
   pub memory : ℕ → List Bool
 
--- ---- newest input lowest (TIA/EIA-136-410, and the engine): the register is the state with the input below it
+-- ---- newest input lowest (TIA/EIA-136-410, and the crate `search`): the register is the state with the input below it
 abbrev pub registerLow : ℕ → Bool → ℕ
 registerLow s b = s * 2 + byte b
 

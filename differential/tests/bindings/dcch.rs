@@ -124,7 +124,7 @@ fn wrong_lengths() {
     tally.end();
 }
 
-/// The scope's corners: nothing but zeros.
+/// Document 01's corners: nothing but zeros.
 #[test]
 fn zeros() {
     let mut tally = Tally::new("crate, DCCH zeros");

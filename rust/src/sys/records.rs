@@ -42,7 +42,7 @@ pub struct Search {
     pub tie: bool,
 }
 
-/// A DCCH block coded or decoded.
+/// A decoded DCCH block.
 #[repr(C)]
 #[derive(Clone, Copy, Debug, PartialEq, Eq)]
 pub struct Block {
