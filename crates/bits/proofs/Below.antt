@@ -42,10 +42,6 @@ module _ (n : ℕ) where
   unfolding allBelow
   below-cons x l h = rw (lt-ltb x n h)
 
-  pub not-below : (x : ℕ) (l : List ℕ) → n ≤ x → allBelow n (x ∷ l) ≡ false
-  unfolding allBelow
-  not-below x l h = rw (le-ltb x n h)
-
   -- by index
   pub below-at : (l : List ℕ) → allBelow n l ≡ true → (k : ℕ) → k < length l → getD l k 0 < n
   below-at [] e k h = absurd (not-suc-le-zero h)

@@ -74,10 +74,6 @@ unpacked-above (b ∷ w) a =
 pub unpacked-packed : (w : List Bool) → unpacked (length w) (packed w) ≡ w
 unpacked-packed w = ap (unpacked (length w)) (sym (ap (λ (x : ℕ). x + packed w) (zero-mul (2 ^ length w)) ∙ zero-add (packed w))) ∙ unpacked-above w 0
 
--- bits of one length that write one number are the same
-pub packed-one : (u w : List Bool) → length u ≡ length w → packed u ≡ packed w → u ≡ w
-packed-one u w l e = sym (unpacked-packed u) ∙ ap₂ unpacked l e ∙ unpacked-packed w
-
 -- ---- the loop of `pack`
 pub record Packing (s : List ℕ) (value k : ℕ) : Type 0 where
   pub low : k ≤ length s

@@ -21,10 +21,6 @@ module _ {A : Type 0} (f : BlockFormat) (d : A) (l : List A) where
   unfolding deinterleaved
   deinterleaved-length = length-listed (encodedBits f) _
 
-  pub interleaved-at : (wire : ℕ) → wire < encodedBits f → getD (interleaved f d l) wire d ≡ getD l (cellAt f wire) d
-  unfolding interleaved
-  interleaved-at wire h = getD-listed (encodedBits f) _ d wire h
-
   pub deinterleaved-at : (cell : ℕ) → cell < encodedBits f → getD (deinterleaved f d l) cell d ≡ getD l (wireOf f cell) d
   unfolding deinterleaved
   deinterleaved-at cell h = getD-listed (encodedBits f) _ d cell h
@@ -60,20 +56,11 @@ module _ {A : Type 0} (f : BlockFormat) (d : A) (l : List A) where
 pub bytes-interleaved : (f : BlockFormat) (w : List Bool) → bytes (interleaved f false w) ≡ interleaved f 0 (bytes w)
 bytes-interleaved f w = map-interleaved f false w byte
 
-pub bits-interleaved : (f : BlockFormat) (l : List ℕ) → bits (interleaved f 0 l) ≡ interleaved f false (bits l)
-bits-interleaved f l = map-interleaved f 0 l bit
-
 pub bytes-deinterleaved : (f : BlockFormat) (w : List Bool) → bytes (deinterleaved f false w) ≡ deinterleaved f 0 (bytes w)
 bytes-deinterleaved f w = map-deinterleaved f false w byte
 
 pub bits-deinterleaved : (f : BlockFormat) (l : List ℕ) → bits (deinterleaved f 0 l) ≡ deinterleaved f false (bits l)
 bits-deinterleaved f l = map-deinterleaved f 0 l bit
-
-pub binary-interleaved : (f : BlockFormat) (l : List ℕ) → allBinary l ≡ true → allBinary (interleaved f 0 l) ≡ true
-binary-interleaved f l e =
-    ap (λ (m : List ℕ). allBinary (interleaved f 0 m)) (sym (bytes-bits l e))
-    ∙ ap allBinary (sym (bytes-interleaved f (bits l)))
-    ∙ binary-bytes (interleaved f false (bits l))
 
 pub binary-deinterleaved : (f : BlockFormat) (l : List ℕ) → allBinary l ≡ true → allBinary (deinterleaved f 0 l) ≡ true
 binary-deinterleaved f l e =

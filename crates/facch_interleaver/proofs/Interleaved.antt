@@ -44,21 +44,8 @@ module _ {A : Type 0} (d : A) where
     map-interleaved previous current =
         map-listed g 260 _ ∙ listed-same 260 _ _ (λ wire. map-by-row wire previous current (placeAt wire))
 
-    pub map-deinterleaved : (first second : List A) → map g (deinterleaved d first second) ≡ deinterleaved (g d) (map g first) (map g second)
-    unfolding deinterleaved collected
-    map-deinterleaved first second =
-        map-listed g 260 _ ∙ listed-same 260 _ _ (λ place. map-by-row (wireOf place) second first (wireOf place))
-
 -- ---- bits and bytes
-pub bits-deinterleaved : (first second : List ℕ) → bits (deinterleaved 0 first second) ≡ deinterleaved false (bits first) (bits second)
-bits-deinterleaved first second = map-deinterleaved 0 bit first second
-
 pub binary-interleaved : (previous current : List ℕ) → allBinary previous ≡ true → allBinary current ≡ true → allBinary (interleaved 0 previous current) ≡ true
 binary-interleaved previous current e f =
     ap₂ (λ (p c : List ℕ). allBinary (interleaved 0 p c)) (sym (bytes-bits previous e)) (sym (bytes-bits current f))
     ∙ ap allBinary (sym (map-interleaved false byte (bits previous) (bits current))) ∙ binary-bytes (interleaved false (bits previous) (bits current))
-
-pub binary-deinterleaved : (first second : List ℕ) → allBinary first ≡ true → allBinary second ≡ true → allBinary (deinterleaved 0 first second) ≡ true
-binary-deinterleaved first second e f =
-    ap₂ (λ (a b : List ℕ). allBinary (deinterleaved 0 a b)) (sym (bytes-bits first e)) (sym (bytes-bits second f))
-    ∙ ap allBinary (sym (map-deinterleaved false byte (bits first) (bits second))) ∙ binary-bytes (deinterleaved false (bits first) (bits second))

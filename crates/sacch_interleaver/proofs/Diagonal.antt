@@ -60,10 +60,6 @@ unfolding fieldOf
 field-of l c E n h = twelve-same _ _ (λ j b. ap (λ (x : ℕ). bitOf x j) (h (11 - j) (omega arith)))
 
 -- ---- what rings give has twelve bits
-pub row-fits : (l : List ℕ) (c : ℕ) → rowOf l c < 4096
-unfolding rowOf
-row-fits l c = twelve-below (λ j. bitOf (getD l ((c + j) % 12) 0) j)
-
 pub field-fits : (l : List ℕ) (c : ℕ) → fieldOf l c < 4096
 unfolding fieldOf
 field-fits l c = twelve-below (λ j. bitOf (getD l ((c + (11 - j)) % 12) 0) j)

@@ -2,7 +2,6 @@
 use mathlib.Core.Path.{ap, _∙_}
 use Rattle.flat_sacch.specs.Flat.{flatWord}
 use borrow.Author.Needs.{needs}
-use borrow.Author.Needs.{needs}
 use Rattle.flat_sacch.proofs.decode.Statement.{statement}
 use Rattle.flat_sacch.proofs.decode.Tie as tie
 use Rattle.flat_sacch.proofs.flat_decoded.Reads as flat-decoded-reads

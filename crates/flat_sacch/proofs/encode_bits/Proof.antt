@@ -1,7 +1,6 @@
 -- `flat_sacch::encode_bits` meets its contract. Assumes nothing.
 use Rattle.flat_sacch.proofs.Flattened.{field-made}
 use borrow.Author.Needs.{needs}
-use borrow.Author.Needs.{needs}
 use Rattle.flat_sacch.proofs.encode_bits.Statement.{statement}
 use Rattle.flat_sacch.proofs.encode_bits.Tie as tie
 use Rattle.flat_sacch.proofs.number_in.Reads as number-in-reads

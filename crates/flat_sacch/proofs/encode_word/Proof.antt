@@ -1,7 +1,6 @@
 -- `flat_sacch::encode_word` meets its contract. Assumes nothing.
 use Rattle.flat_sacch.proofs.Flattened.{fields-made}
 use borrow.Author.Needs.{needs}
-use borrow.Author.Needs.{needs}
 use Rattle.flat_sacch.proofs.encode_word.Statement.{statement}
 use Rattle.flat_sacch.proofs.encode_word.Tie as tie
 use Rattle.flat_sacch.proofs.number_in.Reads as number-in-reads

@@ -3,7 +3,6 @@ use mathlib.Core.Path.{sym, ap, _∙_}
 use Rattle.sacch_decoder.specs.Decoding.{decodeAnswer}
 use Rattle.flat_sacch.specs.Flat.{flatWord}
 use borrow.Author.Needs.{needs}
-use borrow.Author.Needs.{needs}
 use Rattle.flat_sacch.proofs.flat_decoded.Statement.{statement}
 use Rattle.flat_sacch.proofs.flat_decoded.Tie as tie
 use Rattle.flat_sacch.proofs.no_word.Reads as no-word-reads

@@ -3,7 +3,6 @@ use mathlib.Core.Path.{sym, ap, _∙_}
 use Rattle.acelp_cc1.specs.Calls.{decodeAnswer}
 use Rattle.flat_speech.specs.Frames.{acelpFrame}
 use borrow.Author.Needs.{needs}
-use borrow.Author.Needs.{needs}
 use Rattle.flat_speech.proofs.flat_acelp.Statement.{statement}
 use Rattle.flat_speech.proofs.flat_acelp.Tie as tie
 use Rattle.flat_speech.proofs.accepted.Reads as accepted-reads

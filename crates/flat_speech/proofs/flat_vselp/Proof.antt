@@ -4,7 +4,6 @@ use mathlib.Core.Path.{sym, ap, _∙_}
 use Rattle.speech.specs.Calls.{decodeAnswer}
 use Rattle.flat_speech.specs.Frames.{vselpFrame}
 use borrow.Author.Needs.{needs}
-use borrow.Author.Needs.{needs}
 use Rattle.flat_speech.proofs.flat_vselp.Statement.{statement}
 use Rattle.flat_speech.proofs.flat_vselp.Tie as tie
 use Rattle.flat_speech.proofs.accepted.Reads as accepted-reads

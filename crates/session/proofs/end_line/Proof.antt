@@ -5,7 +5,6 @@ use native.Mathlib.Omega.{arith}
 use lib.Seq.{length-take-le}
 use Rattle.session.proofs.Ended.{line-none, line-some}
 use borrow.Author.Needs.{needs}
-use borrow.Author.Needs.{needs}
 use Rattle.session.proofs.end_line.Statement.{statement}
 use Rattle.session.proofs.end_line.Tie as tie
 

@@ -2,7 +2,6 @@
 use Prim.Native.Nat.{_-_}
 use Rattle.session.proofs.Ending.{last-none, last-some}
 use borrow.Author.Needs.{needs}
-use borrow.Author.Needs.{needs}
 use Rattle.session.proofs.last_line.Statement.{statement}
 use Rattle.session.proofs.last_line.Tie as tie
 

@@ -6,7 +6,6 @@ use Rattle.session.specs.Totals.{nothingAdded}
 use Rattle.session.specs.Contracts.{begun}
 use Rattle.sacch_receiver.specs.declared.SacchReceiver.{SacchReceiver}
 use borrow.Author.Needs.{needs}
-use borrow.Author.Needs.{needs}
 use Rattle.session.proofs.start.Statement.{statement}
 use Rattle.session.proofs.start.Tie as tie
 

@@ -5,7 +5,6 @@ use Rattle.sacch_receiver.specs.Receiver.{outcomeAnswer}
 use Rattle.sacch_receiver.specs.declared.ReceiveOutcome.{ReceiveOutcome}
 use Rattle.flat_sacch.specs.Flat.{flatAnswer, noWordPushed}
 use borrow.Author.Needs.{needs}
-use borrow.Author.Needs.{needs}
 use Rattle.flat_sacch.proofs.receiver.flat_outcome.Statement.{statement}
 use Rattle.flat_sacch.proofs.receiver.flat_outcome.Tie as tie
 use Rattle.bits.proofs.refusals.number.Reads as number-reads

@@ -1,7 +1,6 @@
 -- `flat_sacch::receiver::from_receiver` meets its contract. Assumes nothing.
 use Rattle.flat_sacch.specs.Flat.{flatReceiver}
 use borrow.Author.Needs.{needs}
-use borrow.Author.Needs.{needs}
 use Rattle.flat_sacch.proofs.receiver.from_receiver.Statement.{statement}
 use Rattle.flat_sacch.proofs.receiver.from_receiver.Tie as tie
 use Rattle.flat_sacch.proofs.receiver.from_lock.Reads as from-lock-reads

@@ -2,7 +2,6 @@
 use mathlib.Core.Path.{ap, _∙_}
 use Rattle.flat_sacch.specs.Flat.{flatReceiver}
 use borrow.Author.Needs.{needs}
-use borrow.Author.Needs.{needs}
 use Rattle.flat_sacch.proofs.receiver.new_receiver.Statement.{statement}
 use Rattle.flat_sacch.proofs.receiver.new_receiver.Tie as tie
 use Rattle.flat_sacch.proofs.receiver.from_receiver.Reads as from-receiver-reads

@@ -2,7 +2,6 @@
 use mathlib.Core.Path.{sym, ap}
 use Rattle.sacch_receiver.specs.Receiver.{heardAnswer}
 use borrow.Author.Needs.{needs}
-use borrow.Author.Needs.{needs}
 use Rattle.flat_sacch.proofs.receiver.outcome_of.Statement.{statement}
 use Rattle.flat_sacch.proofs.receiver.outcome_of.Tie as tie
 

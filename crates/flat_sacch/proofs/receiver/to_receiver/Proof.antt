@@ -1,7 +1,6 @@
 -- `flat_sacch::receiver::to_receiver` meets its contract. Assumes nothing.
 use Rattle.flat_sacch.specs.Flat.{receiverOf}
 use borrow.Author.Needs.{needs}
-use borrow.Author.Needs.{needs}
 use Rattle.flat_sacch.proofs.receiver.to_receiver.Statement.{statement}
 use Rattle.flat_sacch.proofs.receiver.to_receiver.Tie as tie
 use Rattle.flat_sacch.proofs.receiver.to_lock.Reads as to-lock-reads

@@ -2,7 +2,6 @@
 use Prim.Native.Nat.{_-_}
 use Rattle.lines.specs.Commands.{discontinuityShape}
 use borrow.Author.Needs.{needs}
-use borrow.Author.Needs.{needs}
 use Rattle.lines.proofs.command.is_discontinuity.Statement.{statement}
 use Rattle.lines.proofs.command.is_discontinuity.Tie as tie
 

@@ -2,7 +2,6 @@
 use Prim.Native.Nat.{_-_}
 use Rattle.lines.specs.Commands.{facchShape}
 use borrow.Author.Needs.{needs}
-use borrow.Author.Needs.{needs}
 use Rattle.lines.proofs.command.is_facch.Statement.{statement}
 use Rattle.lines.proofs.command.is_facch.Tie as tie
 

@@ -2,7 +2,6 @@
 use Prim.Native.Nat.{_-_}
 use Rattle.lines.specs.Commands.{sacchShape}
 use borrow.Author.Needs.{needs}
-use borrow.Author.Needs.{needs}
 use Rattle.lines.proofs.command.is_sacch.Statement.{statement}
 use Rattle.lines.proofs.command.is_sacch.Tie as tie
 

@@ -3,7 +3,6 @@ use mathlib.Core.Path.{_∙_}
 use Prim.Native.Nat.{_-_}
 use Rattle.lines.proofs.Forms.{told, sacch-line, facch-line, parsed-long, parsed-blank, parsed-sacch, parsed-discontinuity, parsed-facch, parsed-unknown}
 use borrow.Author.Needs.{needs}
-use borrow.Author.Needs.{needs}
 use Rattle.lines.proofs.command.parse.Statement.{statement}
 use Rattle.lines.proofs.command.parse.Tie as tie
 

@@ -2,7 +2,6 @@
 use Prim.Native.Nat.{_-_}
 use Rattle.lines.specs.Masked.{observedBits}
 use borrow.Author.Needs.{needs}
-use borrow.Author.Needs.{needs}
 use Rattle.lines.proofs.mask.observed_bits.Statement.{statement}
 use Rattle.lines.proofs.mask.observed_bits.Tie as tie
 

@@ -5,7 +5,6 @@ use native.Mathlib.Omega.{arith}
 use lib.ListN.{length-set}
 use Rattle.lines.proofs.Masking.{four-put}
 use borrow.Author.Needs.{needs}
-use borrow.Author.Needs.{needs}
 use Rattle.lines.proofs.mask.put_digit.Statement.{statement}
 use Rattle.lines.proofs.mask.put_digit.Tie as tie
 

@@ -2,7 +2,6 @@
 use Prim.Native.Nat.{_-_}
 use Rattle.lines.proofs.Lettered.{content-put}
 use borrow.Author.Needs.{needs}
-use borrow.Author.Needs.{needs}
 use Rattle.lines.proofs.reply.put_content.Statement.{statement}
 use Rattle.lines.proofs.reply.put_content.Tie as tie
 

@@ -2,7 +2,6 @@
 use Prim.Native.Nat.{_-_}
 use Rattle.text.proofs.Stored.{put-then}
 use borrow.Author.Needs.{needs}
-use borrow.Author.Needs.{needs}
 use Rattle.lines.proofs.reply.put_numbers.Statement.{statement}
 use Rattle.lines.proofs.reply.put_numbers.Tie as tie
 

@@ -4,7 +4,6 @@ use Rattle.lines.specs.Printing.{replyText}
 use Rattle.text.proofs.Stored.{put-nothing}
 use Rattle.lines.proofs.Lettered.{reply-put}
 use borrow.Author.Needs.{needs}
-use borrow.Author.Needs.{needs}
 use Rattle.lines.proofs.reply.put_reply.Statement.{statement}
 use Rattle.lines.proofs.reply.put_reply.Tie as tie
 

@@ -2,7 +2,6 @@
 use Prim.Native.Nat.{_-_}
 use Rattle.lines.proofs.Lettered.{word-put}
 use borrow.Author.Needs.{needs}
-use borrow.Author.Needs.{needs}
 use Rattle.lines.proofs.reply.put_sacch.Statement.{statement}
 use Rattle.lines.proofs.reply.put_sacch.Tie as tie
 

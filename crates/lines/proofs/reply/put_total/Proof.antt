@@ -2,7 +2,6 @@
 use Prim.Native.Nat.{_-_}
 use Rattle.lines.proofs.Lettered.{total-put}
 use borrow.Author.Needs.{needs}
-use borrow.Author.Needs.{needs}
 use Rattle.lines.proofs.reply.put_total.Statement.{statement}
 use Rattle.lines.proofs.reply.put_total.Tie as tie
 

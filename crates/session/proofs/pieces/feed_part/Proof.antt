@@ -3,7 +3,6 @@ use Prim.Native.Nat.{_-_}
 use native.Mathlib.Omega.{arith}
 use Rattle.session.proofs.Stepped.{kept-fits, part-waits, part-ends}
 use borrow.Author.Needs.{needs}
-use borrow.Author.Needs.{needs}
 use Rattle.session.proofs.pieces.feed_part.Statement.{statement}
 use Rattle.session.proofs.pieces.feed_part.Tie as tie
 

@@ -5,7 +5,6 @@ use Rattle.session.specs.Replies.{facchReply}
 use Rattle.facch.specs.Decoding.{decodeAnswer}
 use Rattle.facch.specs.declared.Decoded.{Decoded}
 use borrow.Author.Needs.{needs}
-use borrow.Author.Needs.{needs}
 use Rattle.session.proofs.replies.facch_reply.Statement.{statement}
 use Rattle.session.proofs.replies.facch_reply.Tie as tie
 

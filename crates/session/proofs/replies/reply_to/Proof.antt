@@ -5,7 +5,6 @@ use Rattle.lines.proofs.Forms.{facch-long}
 use Rattle.session.specs.Replies.{commandReplied}
 use Rattle.session.proofs.Replying.{word-replied, reset-replied, replied-at}
 use borrow.Author.Needs.{needs}
-use borrow.Author.Needs.{needs}
 use Rattle.session.proofs.replies.reply_to.Statement.{statement}
 use Rattle.session.proofs.replies.reply_to.Tie as tie
 

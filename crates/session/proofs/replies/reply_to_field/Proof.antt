@@ -2,7 +2,6 @@
 use Prim.Native.Nat.{_-_}
 use Rattle.session.proofs.Replying.{field-replied}
 use borrow.Author.Needs.{needs}
-use borrow.Author.Needs.{needs}
 use Rattle.session.proofs.replies.reply_to_field.Statement.{statement}
 use Rattle.session.proofs.replies.reply_to_field.Tie as tie
 

@@ -5,7 +5,6 @@ use Rattle.session.specs.Replies.{sacchReply}
 use Rattle.sacch_receiver.specs.Receiver.{outcomeAnswer}
 use Rattle.sacch_receiver.specs.declared.ReceiveOutcome.{ReceiveOutcome}
 use borrow.Author.Needs.{needs}
-use borrow.Author.Needs.{needs}
 use Rattle.session.proofs.replies.sacch_reply.Statement.{statement}
 use Rattle.session.proofs.replies.sacch_reply.Tie as tie
 

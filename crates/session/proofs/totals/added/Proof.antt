@@ -3,7 +3,6 @@ use mathlib.Core.Path.{sym, ap, _∙_}
 use Prim.Native.Nat.{_-_}
 use Rattle.session.specs.Totals.{addedBy}
 use borrow.Author.Needs.{needs}
-use borrow.Author.Needs.{needs}
 use Rattle.session.proofs.totals.added.Statement.{statement}
 use Rattle.session.proofs.totals.added.Tie as tie
 

@@ -2,7 +2,6 @@
 use Prim.Native.Nat.{_-_}
 use Rattle.session.specs.Totals.{counted}
 use borrow.Author.Needs.{needs}
-use borrow.Author.Needs.{needs}
 use Rattle.session.proofs.totals.count.Statement.{statement}
 use Rattle.session.proofs.totals.count.Tie as tie
 

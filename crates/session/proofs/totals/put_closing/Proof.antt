@@ -2,7 +2,6 @@
 use Prim.Native.Nat.{_-_}
 use Rattle.session.proofs.Closing.{closing-put}
 use borrow.Author.Needs.{needs}
-use borrow.Author.Needs.{needs}
 use Rattle.session.proofs.totals.put_closing.Statement.{statement}
 use Rattle.session.proofs.totals.put_closing.Tie as tie
 

@@ -2,7 +2,6 @@
 use Prim.Native.Nat.{_-_}
 use Rattle.session.proofs.Closing.{code-none, code-some}
 use borrow.Author.Needs.{needs}
-use borrow.Author.Needs.{needs}
 use Rattle.session.proofs.totals.put_line.Statement.{statement}
 use Rattle.session.proofs.totals.put_line.Tie as tie
 

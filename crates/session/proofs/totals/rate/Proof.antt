@@ -2,7 +2,6 @@
 use Prim.Native.Nat.{_-_}
 use Rattle.session.proofs.Closing.{rate-none, rate-some}
 use borrow.Author.Needs.{needs}
-use borrow.Author.Needs.{needs}
 use Rattle.session.proofs.totals.rate.Statement.{statement}
 use Rattle.session.proofs.totals.rate.Tie as tie
 

@@ -2,7 +2,6 @@
 use Prim.Native.Nat.{_-_}
 use Rattle.session.specs.Totals.{summed}
 use borrow.Author.Needs.{needs}
-use borrow.Author.Needs.{needs}
 use Rattle.session.proofs.totals.sum.Statement.{statement}
 use Rattle.session.proofs.totals.sum.Tie as tie
 

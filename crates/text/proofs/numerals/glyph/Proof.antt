@@ -2,7 +2,6 @@
 use Prim.Native.Nat.{_-_}
 use Rattle.text.proofs.Digits.{glyph-low, glyph-high}
 use borrow.Author.Needs.{needs}
-use borrow.Author.Needs.{needs}
 use Rattle.text.proofs.numerals.glyph.Statement.{statement}
 use Rattle.text.proofs.numerals.glyph.Tie as tie
 

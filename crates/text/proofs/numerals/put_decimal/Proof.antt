@@ -2,7 +2,6 @@
 use Prim.Native.Nat.{_-_}
 use Rattle.text.proofs.Digits.{decimal-put}
 use borrow.Author.Needs.{needs}
-use borrow.Author.Needs.{needs}
 use Rattle.text.proofs.numerals.put_decimal.Statement.{statement}
 use Rattle.text.proofs.numerals.put_decimal.Tie as tie
 

@@ -2,7 +2,6 @@
 use Prim.Native.Nat.{_-_}
 use Rattle.text.proofs.Stored.{put-then}
 use borrow.Author.Needs.{needs}
-use borrow.Author.Needs.{needs}
 use Rattle.text.proofs.numerals.put_two.Statement.{statement}
 use Rattle.text.proofs.numerals.put_two.Tie as tie
 
