@@ -5,7 +5,7 @@
  * Bits are bytes 0 and 1, first sent first. A slice is a pointer and its length: the pointer is to as many elements as the length says,
  * and may be null where that is 0; slices of one call do not overlap. Where a length is not the right one nothing is read, so that a
  * wrong length is refused and no crash. The library allocates nothing, keeps no pointer and has no state of its own: it may be called
- * from any thread. No call takes more than 20,000 bytes of stack. The slowest, a FACCH word of noise, takes up to some 20 microseconds on
+ * from any thread. No call takes more than 20,000 bytes of stack. The slowest, a FACCH word of noise, takes up to some 30 microseconds on
  * one core of an x86-64 machine; every other call 5 or less. `dvcc` is the colour code, any byte. `broadcast` says that the checksum is
  * complemented.
  *
