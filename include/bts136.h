@@ -57,7 +57,7 @@ struct bts136_step {
     uint8_t output[4]; /* the coded bits, 0 or 1; those that the code does not have are 0 */
 };
 
-/* A checksum. */
+/* A checksum, or the register of one. */
 struct bts136_crc {
     uint8_t refusal; /* 0 or 2 */
     uint16_t value;  /* 16 bits, or 0 to 127 where it has 7 */
@@ -188,6 +188,11 @@ struct bts136_step bts136_acelp_transition(uint8_t state, uint8_t input);
 
 /* The 16-bit checksum of any number of bits under a colour code. Refused: 2. */
 struct bts136_crc bts136_checksum(const uint8_t *information, size_t information_len, uint8_t dvcc, bool broadcast);
+/*
+ * The register of that checksum after any number of bits, from a given one, not complemented. From 0 over the eight bits of a colour code, the
+ * highest first, it is a register to hold; from there over the information it is the checksum under that colour code. Refused: 2.
+ */
+struct bts136_crc bts136_checksum_from(uint16_t register_before, const uint8_t *information, size_t information_len);
 /* The 7-bit checksum of any number of a speech frame's bits. Refused: 2. */
 struct bts136_crc bts136_checksum7(const uint8_t *information, size_t information_len);
 

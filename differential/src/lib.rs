@@ -21,6 +21,7 @@ pub mod records;
 pub mod reference;
 pub mod reference_facch;
 pub mod reference_soft;
+pub mod registers;
 pub mod reliabilities;
 pub mod survey;
 pub mod tally;

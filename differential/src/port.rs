@@ -3,7 +3,7 @@
 use crate::phy::dcch::BlockFormat;
 use bindings::flat;
 pub use bindings::flat::{acelp_transition, dcch_transition, facch_transition};
-pub use bindings::flat::{checksum, checksum7, viterbi, viterbi_free};
+pub use bindings::flat::{checksum, checksum_from, checksum7, viterbi, viterbi_free};
 pub use bindings::sys::{Block, Crc as Checksum, Search, Step};
 use bindings::sys::{FacchWord, Frame, SacchWord, Written};
 

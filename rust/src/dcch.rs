@@ -1,6 +1,6 @@
 //! DCCH blocks, as `phy::dcch` has them.
 //!
-//! `decode_soft` and `checksum` are public here; `transition` is in [`flat`], since it refuses a
+//! `decode_soft` and `checksum` are public here, and [`checksum_from`] is new; `transition` is in [`flat`], since it refuses a
 //! state above 31. An error also has its [`number`](BlockError::number).
 //!
 //! ```
@@ -18,7 +18,7 @@
 use crate::bits::{bool_list, byte_list};
 use crate::flat;
 use crate::refusal::{Refusal, never};
-use crate::sys::{Block, Written};
+use crate::sys::{Block, Crc, Written};
 use std::error::Error;
 use std::fmt;
 
@@ -224,7 +224,29 @@ pub fn decode_soft(
 /// ```
 pub fn checksum(information: &[bool], dvcc: u8, mode: CrcMode) -> u16 {
     let broadcast = mode == CrcMode::Broadcast;
-    let answer = flat::checksum(&byte_list(information), dvcc, broadcast);
+    value(flat::checksum(&byte_list(information), dvcc, broadcast))
+}
+
+/// The register of the checksum after any number of bits, from a given one; FACCH and SACCH have
+/// the same. Over one run of bits and then over a second it is that over both joined, so the
+/// register of a colour code can be held and its eight bits run once. It is not complemented.
+///
+/// ```
+/// use bts136::dcch::{CrcMode, checksum, checksum_from};
+///
+/// let colour = 0x5a_u8;
+/// let held = checksum_from(0, &std::array::from_fn::<_, 8, _>(|i| colour >> (7 - i) & 1 == 1));
+/// let information = [true; 109];
+/// let register = checksum_from(held, &information);
+/// assert_eq!(register, checksum(&information, colour, CrcMode::Addressed));
+/// assert_eq!(!register, checksum(&information, colour, CrcMode::Broadcast));
+/// ```
+pub fn checksum_from(register: u16, information: &[bool]) -> u16 {
+    value(flat::checksum_from(register, &byte_list(information)))
+}
+
+/// That of an answer to bits, which are never refused.
+fn value(answer: Crc) -> u16 {
     match answer.refusal {
         0 => answer.value,
         other => never(other),

@@ -82,6 +82,11 @@ pub fn checksum(information: &[u8], dvcc: u8, broadcast: bool) -> Crc {
     unsafe { sys::bts136_checksum(information.as_ptr(), information.len(), dvcc, broadcast) }
 }
 
+/// The register of that checksum after any number of bits, from a given one, not complemented.
+pub fn checksum_from(register: u16, information: &[u8]) -> Crc {
+    unsafe { sys::bts136_checksum_from(register, information.as_ptr(), information.len()) }
+}
+
 /// The 7-bit checksum of any number of a speech frame's bits.
 pub fn checksum7(information: &[u8]) -> Crc {
     unsafe { sys::bts136_checksum7(information.as_ptr(), information.len()) }

@@ -5,8 +5,7 @@ ghost use Rattle.dcch.specs.Blocks.{Decoding, Encoding};
 ghost use Rattle.dcch.specs.SoftBlocks.{SoftDecoding};
 ghost use Rattle.dcch_interleaver.specs.declared.BlockFormat.the-variants.{Forward, ReverseAbbreviated, ReverseNormal};
 ghost use Rattle.flat_coding.specs.Calls.{FlatWrote};
-ghost use Rattle.flat_coding.specs.Flat.{modeOf};
-ghost use Rattle.flat_dcch.specs.Blocks.{FlatDecoded};
+ghost use Rattle.flat_dcch.specs.Blocks.{FlatDecoded, modeOf};
 
 // Codes 109 bits of information into the 260 of a forward block. Refused: 1 for information, then block; 2.
 #[no_mangle]

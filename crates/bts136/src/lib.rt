@@ -11,14 +11,16 @@ use flat_coding::search::Search;
 ghost use mathlib.Core.Path.{_≡_};
 ghost use lib.ListN.{length};
 ghost use Rattle.bits.specs.Bits.{bits};
-ghost use Rattle.checksums.specs.Checksums.{checksum7Of, checksumOf, answerForBits};
+ghost use Rattle.checksums.specs.Checksums.{answerForBits, checksum7Of, checksumFrom};
 ghost use Rattle.coding.specs.Codes.{acelp, dcch, facch};
 ghost use Rattle.coding.specs.Registers.{memoryHigh, memoryLow};
 ghost use Rattle.trellis.specs.Search.{Found, FoundFirst};
 ghost use Rattle.trellis.specs.Words.{OfLength, Terminated};
 ghost use Rattle.viterbi.specs.Hard.{freeWeight, weight};
-ghost use Rattle.flat_coding.specs.Flat.{StepAnswer, flatChecksum, modeOf};
+ghost use Rattle.dcch.specs.Crc.{sentChecksum};
+ghost use Rattle.flat_coding.specs.Flat.{StepAnswer, flatChecksum};
 ghost use Rattle.flat_coding.specs.FlatSearch.{SearchAnswer};
+ghost use Rattle.flat_dcch.specs.Blocks.{modeOf};
 
 // One step of the code of DCCH, SACCH and VSELP, with 2 coded bits. Refused: 8 for a state above 31, then 2 for an input above 1.
 #[no_mangle]
@@ -47,9 +49,18 @@ pub extern "C" fn bts136_acelp_transition(state: u8, input: u8) -> Step
 // The 16-bit checksum of any number of bits under a colour code. Refused: 2.
 #[no_mangle]
 pub extern "C" fn bts136_checksum(information: &[u8], dvcc: u8, broadcast: bool) -> Checksum
-    ensures { λ r. ⌜ r ≡ flatChecksum (answerForBits (now (information .entry)) (checksumOf (bits (now (information .entry))) dvcc (modeOf broadcast))) ⌝ }
+    ensures { λ r. ⌜ r ≡ flatChecksum (answerForBits (now (information .entry)) (sentChecksum (bits (now (information .entry))) dvcc (modeOf broadcast))) ⌝ }
 {
-    flat_coding::checksum16(information, dvcc, broadcast)
+    flat_dcch::checksum(information, dvcc, broadcast)
+}
+
+// The register of that checksum after any number of bits, from a given one. From 0 over the eight bits of the colour code, the highest first, and from
+// there over the information, it is the checksum, not complemented. Refused: 2.
+#[no_mangle]
+pub extern "C" fn bts136_checksum_from(register: u16, information: &[u8]) -> Checksum
+    ensures { λ r. ⌜ r ≡ flatChecksum (answerForBits (now (information .entry)) (checksumFrom register (bits (now (information .entry))))) ⌝ }
+{
+    flat_coding::checksum_from(register, information)
 }
 
 // The 7-bit checksum of any number of a speech frame's bits. Refused: 2.

@@ -148,7 +148,7 @@ pub fn byte_at(numbers: &[u64], k: usize) -> u8 {
     (at(numbers, k) % 256) as u8
 }
 
-pub fn field_at(numbers: &[u64], k: usize) -> u16 {
+pub fn u16_at(numbers: &[u64], k: usize) -> u16 {
     (at(numbers, k) % 65536) as u16
 }
 

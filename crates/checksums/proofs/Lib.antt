@@ -2,5 +2,6 @@
 pub mod Division
 pub mod Shifting
 pub mod Fours
+pub mod Runs
 pub mod Answers
 pub mod Tested

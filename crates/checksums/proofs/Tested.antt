@@ -1,8 +1,8 @@
 -- The checksum after the information of a word, tested. Assumes nothing.
-use mathlib.Core.Path.{_≡_, sym, ap, ap₂, _∙_}
+use mathlib.Core.Path.{_≡_, sym, ap, _∙_}
 use mathlib.Core.Bool.{Bool, true}
 use mathlib.Core.List.{List, _++_}
-use Prim.Native.Nat.{ℕ, _+_, _-_}
+use Prim.Native.Nat.{ℕ, _+_, _-_, _<_}
 use lib.Dec.{eqb}
 use lib.ListN.{length, take, drop}
 use lib.Seq.{take-at, drop-at}
@@ -11,23 +11,27 @@ use Rattle.bits.specs.Bits.{bits}
 use Rattle.bits.specs.Numbers.{packed, unpacked}
 use Rattle.bits.proofs.Binary.{bits-take}
 use Rattle.bits.proofs.Packed.{part-bits, packed-unpacked-below, unpacked-length}
-use Rattle.checksums.specs.Checksums.{checksumOf, crcValid}
-use Rattle.checksums.specs.declared.CrcMode.{CrcMode}
-use Rattle.checksums.proofs.Answers.{checksum-below}
+use Rattle.checksums.specs.Checksums.{crcValid}
 
-pub valid-is : (l : List ℕ) (dvcc : ℕ) (mode : CrcMode) (at : ℕ) {received value : ℕ} → received ≡ packed (bits (take (at + 16 - at) (drop at l)))
-    → value ≡ checksumOf (bits (take at l)) dvcc mode → eqb received value ≡ crcValid at (bits l) dvcc mode
+pub valid-is : (l : List ℕ) (at checksum : ℕ) {received : ℕ} → received ≡ packed (bits (take (at + 16 - at) (drop at l)))
+    → eqb received checksum ≡ crcValid at (bits l) checksum
 unfolding crcValid
-valid-is l dvcc mode at er ev = ap₂ eqb (er ∙ ap packed (part-bits 16 at l)) (ev ∙ ap (λ (u : List Bool). checksumOf u dvcc mode) (bits-take at l))
+valid-is l at checksum e = ap (λ (x : ℕ). eqb x checksum) (e ∙ ap packed (part-bits 16 at l))
 
--- information followed by its own checksum, whatever comes after
-pub own-valid : (information rest : List Bool) (dvcc : ℕ) (mode : CrcMode) {n : ℕ} → n ≡ length information
-    → crcValid n (information ++ (unpacked 16 (checksumOf information dvcc mode) ++ rest)) dvcc mode ≡ true
-unfolding crcValid
-own-valid information rest dvcc mode {n} e =
-    let c : ℕ = checksumOf information dvcc mode in
-    let word : List Bool = information ++ (unpacked 16 c ++ rest) in
-    let sent : packed (take 16 (drop n word)) ≡ c =
-    ap (λ (l : List Bool). packed (take 16 l)) (drop-at information (unpacked 16 c ++ rest) n (sym e))
-    ∙ ap packed (take-at (unpacked 16 c) rest 16 (unpacked-length 16 c)) ∙ packed-unpacked-below 16 c (checksum-below information dvcc mode) in
-    eq-eqb _ _ (sent ∙ ap (λ (u : List Bool). checksumOf u dvcc mode) (sym (take-at information (unpacked 16 c ++ rest) n (sym e))))
+-- a checksum of the first n bits, of any kind
+module _ (sum : List Bool → ℕ) (n : ℕ) where
+  -- tested after those bits
+  pub valid-own : (l : List ℕ) {right : Bool} {checksum : ℕ} → checksum ≡ sum (bits (take n l)) → right ≡ crcValid n (bits l) checksum
+      → right ≡ crcValid n (bits l) (sum (take n (bits l)))
+  valid-own l e r = r ∙ ap (crcValid n (bits l)) (e ∙ ap sum (bits-take n l))
+
+  -- information followed by its own, whatever comes after
+  pub own-valid : (information rest : List Bool) → sum information < 65536 → n ≡ length information
+      → crcValid n (information ++ (unpacked 16 (sum information) ++ rest)) (sum (take n (information ++ (unpacked 16 (sum information) ++ rest)))) ≡ true
+  unfolding crcValid
+  own-valid information rest below e =
+      let after : List Bool = unpacked 16 (sum information) ++ rest in
+      let sent : packed (take 16 (drop n (information ++ after))) ≡ sum information =
+      ap (λ (l : List Bool). packed (take 16 l)) (drop-at information after n (sym e))
+      ∙ ap packed (take-at (unpacked 16 (sum information)) rest 16 (unpacked-length 16 (sum information))) ∙ packed-unpacked-below 16 (sum information) below in
+      eq-eqb _ _ (sent ∙ ap sum (sym (take-at information after n (sym e))))

@@ -8,8 +8,6 @@ use Rattle.bits.specs.Bits.{bits, allBinary, _⊕_}
 use Rattle.bits.specs.Numbers.{packed, unpacked}
 use Rattle.bits.specs.Refusals.{Answer, accepted, refused}
 use Rattle.bits.specs.declared.Refusal.the-variants.{Symbol}
-use Rattle.checksums.specs.declared.CrcMode.{CrcMode}
-use Rattle.checksums.specs.declared.CrcMode.the-variants.{Broadcast, Addressed}
 use Rattle.checksums.specs.declared.Checked.{Checked}
 use Rattle.checksums.specs.declared.Checked.the-variants.{Value, Refused}
 
@@ -42,18 +40,17 @@ ccitt = bits (0 ∷ 0 ∷ 0 ∷ 1 ∷ 0 ∷ 0 ∷ 0 ∷ 0 ∷ 0 ∷ 0 ∷ 1 ∷ 
 abbrev pub speech : List Bool
 speech = bits (0 ∷ 1 ∷ 1 ∷ 0 ∷ 1 ∷ 1 ∷ 1 ∷ [])
 
--- F-BCCH sends the complement
-abbrev pub complemented : CrcMode → ℕ → ℕ
-complemented Broadcast x = 65535 - x
-complemented Addressed x = x
+-- the 16-bit register after the bits u: what is left of its own bits, added to u followed by zeros
+unfoldable pub checksumFrom : ℕ → List Bool → ℕ
+checksumFrom register u = packed (remainder ccitt (added (unpacked 16 register) (u ++ replicate 16 false)))
 
 -- the 16-bit checksum of information under a colour code, whose eight bits go first
-unfoldable pub checksumOf : List Bool → ℕ → CrcMode → ℕ
-checksumOf information dvcc mode = complemented mode (packed (checkBits ccitt (unpacked 8 dvcc ++ information)))
+unfoldable pub checksumOf : List Bool → ℕ → ℕ
+checksumOf information dvcc = packed (checkBits ccitt (unpacked 8 dvcc ++ information))
 
--- whether the 16 bits after the first n of a word are the checksum of those n
-unfoldable pub crcValid : ℕ → List Bool → ℕ → CrcMode → Bool
-crcValid n w dvcc mode = eqb (packed (take 16 (drop n w))) (checksumOf (take n w) dvcc mode)
+-- whether the 16 bits after the first n of a word are this checksum
+unfoldable pub crcValid : ℕ → List Bool → ℕ → Bool
+crcValid n w checksum = eqb (packed (take 16 (drop n w))) checksum
 
 unfoldable pub checksum7Of : List Bool → ℕ
 checksum7Of information = packed (checkBits speech information)

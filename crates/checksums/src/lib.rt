@@ -10,7 +10,7 @@ ghost use Prim.Native.Nat.{ℕ, _+_, _<_, _≤_};
 ghost use lib.ListN.{length};
 ghost use Rattle.bits.specs.Bits.{allBinary, bit, bits};
 ghost use Rattle.bits.specs.Numbers.{packed, unpacked};
-ghost use Rattle.checksums.specs.Checksums.{answerOf, checksum7Of, checksumOf, complemented, crcValid, answerForBits};
+ghost use Rattle.checksums.specs.Checksums.{answerForBits, answerOf, checksum7Of, checksumFrom, checksumOf, crcValid};
 ghost use Rattle.checksums.specs.Feedback.{Sized, registerAfter, stepped};
 
 // The weight of the highest bit of a register of 16 bits.
@@ -24,12 +24,6 @@ const CCITT: u16 = 0x1021;
 
 // x^7 + x^5 + x^4 + x^2 + x + 1, the coefficients below the highest.
 const SPEECH: u16 = 0x37;
-
-// Whether the checksum is sent as it is or complemented (F-BCCH).
-pub enum CrcMode {
-    Broadcast,
-    Addressed,
-}
 
 pub enum Checked {
     Value(u16),
@@ -81,60 +75,53 @@ fn four_of(a: u8, b: u8, c: u8, d: u8) -> u16
 }
 
 // Bits into a register of the 16-bit checksum, by fours, and those that are left one after the other.
-fn run_by_fours(register: u16, s: &[u8]) -> u16
-    requires { ⌜ allBinary (now s) ≡ true ⌝ }
-    ensures { λ r. ⌜ r ≡ registerAfter 16 4129 register (bits (now (s .entry))) ⌝ }
+pub fn checksum_from_bits(register: u16, information: &[u8]) -> u16
+    requires { ⌜ allBinary (now information) ≡ true ⌝ }
+    ensures { λ r. ⌜ r ≡ checksumFrom register (bits (now (information .entry))) ⌝ }
 {
     let mut x = register;
     let mut i = 0;
-    while 4 <= s.len() - i {
-        let four = four_of(s[i], s[i + 1], s[i + 2], s[i + 3]);
+    while 4 <= information.len() - i {
+        let four = four_of(
+            information[i],
+            information[i + 1],
+            information[i + 2],
+            information[i + 3],
+        );
         x = four_in(x, four);
         i += 4;
     }
-    run(x, &s[i..], TOP, CCITT)
-}
-
-// A checksum as it is sent.
-fn sent(register: u16, mode: CrcMode) -> u16
-    ensures { λ r. ⌜ r ≡ complemented mode register ⌝ }
-{
-    match mode {
-        CrcMode::Broadcast => 65535 - register,
-        CrcMode::Addressed => register,
-    }
-}
-
-// The checksum of information under a colour code, whose eight bits go first.
-pub fn checksum_of_bits(information: &[u8], dvcc: u8, mode: CrcMode) -> u16
-    requires { ⌜ allBinary (now information) ≡ true ⌝ }
-    ensures { λ r. ⌜ r ≡ checksumOf (bits (now (information .entry))) dvcc mode ⌝ }
-{
-    let colour = dvcc as u16;
-    let half = four_in(0, colour / 16);
-    let start = four_in(half, colour % 16);
-    let register = run_by_fours(start, information);
-    sent(register, mode)
+    run(x, &information[i..], TOP, CCITT)
 }
 
 // The same of bytes of any content; Symbol where one is no bit.
-pub fn checksum(information: &[u8], dvcc: u8, mode: CrcMode) -> Checked
-    ensures { λ r. ⌜ answerOf r ≡ answerForBits (now (information .entry)) (checksumOf (bits (now (information .entry))) dvcc mode) ⌝ }
+pub fn checksum_from(register: u16, information: &[u8]) -> Checked
+    ensures { λ r. ⌜ answerOf r ≡ answerForBits (now (information .entry)) (checksumFrom register (bits (now (information .entry)))) ⌝ }
 {
     if !all_binary(information) {
         return Checked::Refused(Refusal::Symbol);
     }
-    let value = checksum_of_bits(information, dvcc, mode);
-    Checked::Value(value)
+    let last = checksum_from_bits(register, information);
+    Checked::Value(last)
 }
 
-// Whether the 16 bits after so many bits of a word are the checksum of those.
-pub fn crc_valid(information: usize, word: &[u8], dvcc: u8, mode: CrcMode) -> bool
+// The checksum of information under a colour code, whose eight bits go first.
+pub fn checksum_of_bits(information: &[u8], dvcc: u8) -> u16
+    requires { ⌜ allBinary (now information) ≡ true ⌝ }
+    ensures { λ r. ⌜ r ≡ checksumOf (bits (now (information .entry))) dvcc ⌝ }
+{
+    let colour = dvcc as u16;
+    let half = four_in(0, colour / 16);
+    let start = four_in(half, colour % 16);
+    checksum_from_bits(start, information)
+}
+
+// Whether the 16 bits after so many bits of a word are this checksum.
+pub fn crc_valid(information: usize, word: &[u8], checksum: u16) -> bool
     requires { ⌜ (information + 16 ≤ length (now word)) × (allBinary (now word) ≡ true) ⌝ }
-    ensures { λ r. ⌜ r ≡ crcValid information (bits (now (word .entry))) dvcc mode ⌝ }
+    ensures { λ r. ⌜ r ≡ crcValid information (bits (now (word .entry))) checksum ⌝ }
 {
     let received = pack(&word[information..information + 16]);
-    let checksum = checksum_of_bits(&word[..information], dvcc, mode);
     received == checksum as u64
 }
 

@@ -14,12 +14,12 @@ use Rattle.bits.specs.declared.Refusal.{Refusal}
 use Rattle.bits.proofs.Binary.{bits-bytes, binary-bytes}
 use Rattle.bits.proofs.LentPart.{became, became-length}
 use Rattle.bits.proofs.Refusing.{never-both, passed-room}
-use Rattle.checksums.specs.declared.CrcMode.{CrcMode}
 use Rattle.trellis.specs.Search.{FoundFirst}
 use Rattle.trellis.specs.declared.Outcome.{Outcome}
 use Rattle.trellis.specs.Words.{Terminated}
 use Rattle.viterbi.specs.Hard.{weight}
 use Rattle.dcch_interleaver.specs.declared.BlockFormat.{BlockFormat}
+use Rattle.dcch.specs.declared.crc.CrcMode.{CrcMode}
 use Rattle.dcch.specs.declared.block.Decoded.{Decoded}
 use Rattle.dcch.specs.declared.block.Decoded.the-variants as answer
 use Rattle.dcch_interleaver.specs.Formats.{encodedBits, informationBits}

@@ -17,14 +17,14 @@ use Rattle.bits.proofs.Refusing.{passed-room}
 use Rattle.coding.specs.Codes.{coded, dcch}
 use Rattle.coding.specs.Registers.{memoryHigh}
 use Rattle.coding.specs.Runs.{Encoded}
-use Rattle.checksums.specs.Checksums.{checksumOf}
-use Rattle.checksums.specs.declared.CrcMode.{CrcMode}
 use Rattle.dcch_interleaver.specs.declared.BlockFormat.{BlockFormat}
 use Rattle.dcch_interleaver.specs.declared.BlockFormat.the-variants.{Forward, ReverseNormal, ReverseAbbreviated}
 use Rattle.bits.specs.declared.Wrote.the-variants as answer
 use Rattle.bits.proofs.Writing as writing
 use Rattle.dcch_interleaver.specs.Formats.{encodedBits, informationBits}
 use Rattle.dcch_interleaver.specs.Wire.{interleaved}
+use Rattle.dcch.specs.declared.crc.CrcMode.{CrcMode}
+use Rattle.dcch.specs.Crc.{sentChecksum}
 use Rattle.dcch.specs.Blocks.{inputsOf, cellsOf, blockOf, encodeArguments, Encoding}
 use Rattle.dcch_interleaver.proofs.Interleaved.{bytes-interleaved}
 
@@ -64,7 +64,7 @@ module _ (information : List ℕ) (binary : allBinary information ≡ true) (sma
       ap allBinary part ∙ ap allBinary filled ∙ binary-bytes (inputsOf (bits information) checksum),
     )
 
-    pub cells-coded : {cells : List ℕ} {next : ℕ} → checksum ≡ checksumOf (bits information) dvcc mode
+    pub cells-coded : {cells : List ℕ} {next : ℕ} → checksum ≡ sentChecksum (bits information) dvcc mode
         → Encoded 0 (take (length information + 21) (inputs ++ drop {A = ℕ} (length information + 21) (replicate 130 0))) cells next
         → cells ≡ bytes (cellsOf (bits information) dvcc mode)
     unfolding cellsOf

@@ -1,4 +1,5 @@
--- The laws of encoding and decoding, hard and soft, the round trip, what settles an answer, and what an accepted word is on the air.
+-- The laws of the checksum, of encoding and decoding, hard and soft, the round trip, what settles an answer, and what an accepted word is on the air.
+pub mod Checksums
 pub mod Inputs
 pub mod Encodings
 pub mod Finishing

@@ -8,13 +8,13 @@ use lib.Ieee.{Float, nan}
 use Rattle.bits.specs.Bits.{bits}
 use Rattle.bits.specs.declared.arguments.Arguments.{Arguments}
 use Rattle.bits.specs.declared.arguments.Arguments.the-variants.{Passed, Refused}
-use Rattle.checksums.specs.Checksums.{crcValid}
-use Rattle.checksums.specs.declared.CrcMode.{CrcMode}
 use Rattle.trellis.proofs.Searching.{first-unique}
 use Rattle.viterbi.specs.Hard.{weight}
 use Rattle.soft.specs.Reliability.{allFinite}
 use Rattle.dcch_interleaver.specs.declared.BlockFormat.{BlockFormat}
 use Rattle.dcch_interleaver.specs.Wire.{deinterleaved}
+use Rattle.dcch.specs.declared.crc.CrcMode.{CrcMode}
+use Rattle.dcch.specs.Crc.{blockValid}
 use Rattle.dcch.specs.declared.block.Decoded.{Decoded}
 use Rattle.dcch.specs.Blocks.{decodeArguments, decodeAnswer, Finished, Settled, Decoding}
 use Rattle.dcch.specs.SoftBlocks.{softArguments, SoftEnd, SoftDecoding}
@@ -24,9 +24,9 @@ Same r s one other = (decodeAnswer r ≡ decodeAnswer s) × (one ≡ other)
 
 module _ {dvcc : ℕ} {mode : CrcMode} {information₀ one other : List ℕ} {r s : Decoded} where
   one-finished : {inputs : List Bool} {corrected : ℕ} → Finished inputs corrected dvcc mode information₀ one r → Finished inputs corrected dvcc mode information₀ other s → Same r s one other
-  one-finished {inputs} {corrected} p q = go (crcValid (length information₀) inputs dvcc mode) refl
+  one-finished {inputs} {corrected} p q = go (blockValid (length information₀) inputs dvcc mode) refl
     where
-      go : (b : Bool) → crcValid (length information₀) inputs dvcc mode ≡ b → Same r s one other
+      go : (b : Bool) → blockValid (length information₀) inputs dvcc mode ≡ b → Same r s one other
       go true e = let a = p .taken e in let b = q .taken e in (a .0 ∙ sym (b .0), a .1 ∙ sym (b .1))
       go false e = let a = p .failed e in let b = q .failed e in (a .0 ∙ sym (b .0), a .1 ∙ sym (b .1))
 

@@ -16,8 +16,6 @@ use Rattle.bits.proofs.Packed.{unpacked-length}
 use Rattle.bits.proofs.Tally.{disagreements-self, disagreements-none}
 use Rattle.coding.specs.Codes.{coded, dcch}
 use Rattle.coding.specs.Registers.{memoryHigh}
-use Rattle.checksums.specs.Checksums.{checksumOf, crcValid}
-use Rattle.checksums.specs.declared.CrcMode.{CrcMode}
 use Rattle.coding.proofs.Coded.{coded-length}
 use Rattle.coding.proofs.Unique.{same-start}
 use Rattle.checksums.proofs.Tested.{own-valid}
@@ -26,6 +24,9 @@ use Rattle.trellis.specs.Words.{Terminated}
 use Rattle.viterbi.specs.Hard.{weight, weightFrom}
 use Rattle.bits.proofs.Refusing.{room-passed}
 use Rattle.dcch_interleaver.specs.declared.BlockFormat.{BlockFormat}
+use Rattle.dcch.specs.declared.crc.CrcMode.{CrcMode}
+use Rattle.dcch.proofs.Checksums.{sent-below}
+use Rattle.dcch.specs.Crc.{blockValid, sentChecksum}
 use Rattle.dcch.specs.declared.block.Decoded.{Decoded}
 use Rattle.dcch_interleaver.specs.Formats.{encodedBits, informationBits}
 use Rattle.dcch_interleaver.specs.Wire.{interleaved, deinterleaved}
@@ -35,7 +36,7 @@ use Rattle.dcch.proofs.Encodings.{format-sizes}
 
 module _ (f : BlockFormat) (information : List Bool) (size : length information ≡ informationBits f) (dvcc : ℕ) (mode : CrcMode) where
   inputs : List Bool
-  inputs = inputsOf information (checksumOf information dvcc mode)
+  inputs = inputsOf information (sentChecksum information dvcc mode)
 
   cells : List Bool
   cells = cellsOf information dvcc mode
@@ -43,8 +44,8 @@ module _ (f : BlockFormat) (information : List Bool) (size : length information 
   inputs-length : length inputs ≡ length information + 21
   unfolding inputs inputsOf
   inputs-length =
-      length-append information (unpacked 16 (checksumOf information dvcc mode) ++ replicate 5 false)
-      ∙ ap (λ (n : ℕ). length information + n) (length-append (unpacked 16 (checksumOf information dvcc mode)) (replicate 5 false) ∙ ap (λ (n : ℕ). n + 5) (unpacked-length 16 (checksumOf information dvcc mode)))
+      length-append information (unpacked 16 (sentChecksum information dvcc mode) ++ replicate 5 false)
+      ∙ ap (λ (n : ℕ). length information + n) (length-append (unpacked 16 (sentChecksum information dvcc mode)) (replicate 5 false) ∙ ap (λ (n : ℕ). n + 5) (unpacked-length 16 (sentChecksum information dvcc mode)))
 
   pub cells-length : length (cellsOf information dvcc mode) ≡ encodedBits f
   unfolding cellsOf inputs
@@ -57,8 +58,8 @@ module _ (f : BlockFormat) (information : List Bool) (size : length information 
       record {
         steps = length-reverse inputs ∙ omega (arith, inputs-length, size, format-sizes f .0);
         tail =
-            ap (take 5) (reverse-append information (unpacked 16 (checksumOf information dvcc mode) ++ replicate 5 false)
-            ∙ ap (λ (l : List Bool). l ++ reverse information) (reverse-append (unpacked 16 (checksumOf information dvcc mode)) (replicate 5 false)));
+            ap (take 5) (reverse-append information (unpacked 16 (sentChecksum information dvcc mode) ++ replicate 5 false)
+            ∙ ap (λ (l : List Bool). l ++ reverse information) (reverse-append (unpacked 16 (sentChecksum information dvcc mode)) (replicate 5 false)));
       }
 
   own-weight : weight cells (reverse inputs) ≡ 0
@@ -79,12 +80,12 @@ module _ (f : BlockFormat) (information : List Bool) (size : length information 
 
   front : (n : ℕ) → n ≡ length information → take n inputs ≡ information
   unfolding inputs inputsOf
-  front n e = ap (λ (k : ℕ). take k inputs) e ∙ take-at information (unpacked 16 (checksumOf information dvcc mode) ++ replicate 5 false) (length information) refl
+  front n e = ap (λ (k : ℕ). take k inputs) e ∙ take-at information (unpacked 16 (sentChecksum information dvcc mode) ++ replicate 5 false) (length information) refl
 
   -- the checksum in the inputs is right
-  valid-own : (n : ℕ) → n ≡ length information → crcValid n inputs dvcc mode ≡ true
+  valid-own : (n : ℕ) → n ≡ length information → blockValid n inputs dvcc mode ≡ true
   unfolding inputs inputsOf
-  valid-own n e = own-valid information (replicate 5 false) dvcc mode e
+  valid-own n e = own-valid (λ (u : List Bool). sentChecksum u dvcc mode) n information (replicate 5 false) (sent-below information dvcc mode) e
 
   passed : (n : ℕ) → n ≡ informationBits f → decodeArguments f (bytes (blockOf f information dvcc mode)) n ≡ Passed
   unfolding blockOf
@@ -103,7 +104,7 @@ module _ (f : BlockFormat) (information : List Bool) (size : length information 
       subst (λ (u : List Bool). First (Terminated (encodedBits f / 2)) (weight u) w) received (s .first) in
       let zero : weight cells w ≡ 0 = omega (arith, first .nearest .least (reverse inputs) own, own-weight) in
       let same : reverse w ≡ inputs = only-own w (first .nearest .word) zero in
-      let taken = s .finished .taken (ap (λ (u : List Bool). crcValid (length information₀) u dvcc mode) same ∙ valid-own (length information₀) (l ∙ sym size)) in (
+      let taken = s .finished .taken (ap (λ (u : List Bool). blockValid (length information₀) u dvcc mode) same ∙ valid-own (length information₀) (l ∙ sym size)) in (
         taken .0 ∙ ap accepted (ap (λ (u : List Bool). weight u w) received ∙ zero),
         taken .1 ∙ ap bytes (ap (take (length information₀)) same ∙ front (length information₀) (l ∙ sym size)),
       )

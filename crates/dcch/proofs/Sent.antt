@@ -21,8 +21,7 @@ use Rattle.bits.proofs.Packed.{unpacked-packed}
 use Rattle.bits.proofs.Refusing.{passed-room, passed-first, passed-exact}
 use Rattle.coding.specs.Codes.{coded, dcch}
 use Rattle.coding.specs.Registers.{memoryHigh}
-use Rattle.checksums.specs.Checksums.{checksumOf, crcValid}
-use Rattle.checksums.specs.declared.CrcMode.{CrcMode}
+use Rattle.checksums.specs.Checksums.{crcValid}
 use Rattle.trellis.specs.Words.{Terminated}
 use Rattle.viterbi.specs.Hard.{weightFrom}
 use Rattle.soft.specs.Reliability.{allFinite, negative, signCount}
@@ -31,6 +30,8 @@ use Rattle.dcch_interleaver.specs.Formats.{encodedBits, informationBits}
 use Rattle.dcch_interleaver.specs.Wire.{deinterleaved}
 use Rattle.dcch_interleaver.proofs.Interleaved.{map-deinterleaved}
 use Rattle.dcch_interleaver.proofs.Disagreements.{tally-on-air}
+use Rattle.dcch.specs.declared.crc.CrcMode.{CrcMode}
+use Rattle.dcch.specs.Crc.{blockValid, sentChecksum}
 use Rattle.dcch.specs.declared.block.Decoded.{Decoded}
 use Rattle.dcch.specs.Blocks.{inputsOf, cellsOf, blockOf, decodeArguments, decodeAnswer, Finished, Settled, Decoding}
 use Rattle.dcch.specs.SoftBlocks.{softArguments, signsOf, SoftEnd, SoftDecoding}
@@ -39,7 +40,7 @@ use Rattle.dcch.proofs.RoundTrip.{cells-length}
 
 module _ (f : BlockFormat) (dvcc : ℕ) (mode : CrcMode) where
   -- ---- a word whose checksum is right
-  module _ (w : List Bool) (t : Terminated (encodedBits f / 2) w) (n : ℕ) (size : n ≡ informationBits f) (valid : crcValid n (reverse w) dvcc mode ≡ true) where
+  module _ (w : List Bool) (t : Terminated (encodedBits f / 2) w) (n : ℕ) (size : n ≡ informationBits f) (valid : blockValid n (reverse w) dvcc mode ≡ true) where
     abbrev inputs : List Bool
     inputs = reverse w
 
@@ -52,11 +53,11 @@ module _ (f : BlockFormat) (dvcc : ℕ) (mode : CrcMode) where
     information-length : length information ≡ informationBits f
     information-length = length-take-le n inputs (omega (arith, inputs-length)) ∙ size
 
-    checksum-bits : take 16 (drop n inputs) ≡ unpacked 16 (checksumOf information dvcc mode)
+    checksum-bits : take 16 (drop n inputs) ≡ unpacked 16 (sentChecksum information dvcc mode)
     unfolding crcValid
     checksum-bits =
         let l : length (take 16 (drop n inputs)) ≡ 16 = length-take-le 16 (drop n inputs) (omega (arith, length-drop n inputs, inputs-length)) in
-        sym (unpacked-packed (take 16 (drop n inputs))) ∙ ap₂ unpacked l (eqb→eq (packed (take 16 (drop n inputs))) (checksumOf information dvcc mode) (subst T (sym valid) tt))
+        sym (unpacked-packed (take 16 (drop n inputs))) ∙ ap₂ unpacked l (eqb→eq (packed (take 16 (drop n inputs))) (sentChecksum information dvcc mode) (subst T (sym valid) tt))
 
     tail-bits : drop 16 (drop n inputs) ≡ replicate 5 false
     tail-bits =
@@ -64,7 +65,7 @@ module _ (f : BlockFormat) (dvcc : ℕ) (mode : CrcMode) where
         let l : length (reverse (drop 5 w)) ≡ n + 16 = length-reverse (drop 5 w) ∙ omega (arith, length-drop 5 w, length-reverse w, inputs-length) in
         drop-drop 16 n inputs ∙ ap (drop (n + 16)) e ∙ drop-at (reverse (drop 5 w)) (reverse (take 5 w)) (n + 16) l ∙ ap reverse (t .tail)
 
-    own-inputs : inputs ≡ inputsOf information (checksumOf information dvcc mode)
+    own-inputs : inputs ≡ inputsOf information (sentChecksum information dvcc mode)
     unfolding inputsOf
     own-inputs =
         sym (take-append-drop n inputs)
@@ -85,11 +86,11 @@ module _ (f : BlockFormat) (dvcc : ℕ) (mode : CrcMode) where
   -- ---- an accepted decoding
   -- the answer of a decoding that has finished
   taken-only : {inputs : List Bool} {corrected n : ℕ} {information₀ information : List ℕ} {r : Decoded} → Finished inputs corrected dvcc mode information₀ information r
-      → decodeAnswer r ≡ accepted n → (crcValid (length information₀) inputs dvcc mode ≡ true) × (n ≡ corrected) × (bits information ≡ take (length information₀) inputs)
-  taken-only {inputs} {corrected} {n} {information₀} {information} {r} p a = go (crcValid (length information₀) inputs dvcc mode) refl
+      → decodeAnswer r ≡ accepted n → (blockValid (length information₀) inputs dvcc mode ≡ true) × (n ≡ corrected) × (bits information ≡ take (length information₀) inputs)
+  taken-only {inputs} {corrected} {n} {information₀} {information} {r} p a = go (blockValid (length information₀) inputs dvcc mode) refl
     where
-      go : (b : Bool) → crcValid (length information₀) inputs dvcc mode ≡ b
-          → (crcValid (length information₀) inputs dvcc mode ≡ true) × (n ≡ corrected) × (bits information ≡ take (length information₀) inputs)
+      go : (b : Bool) → blockValid (length information₀) inputs dvcc mode ≡ b
+          → (blockValid (length information₀) inputs dvcc mode ≡ true) × (n ≡ corrected) × (bits information ≡ take (length information₀) inputs)
       go true e = let t = p .taken e in let q : accepted n ≡ accepted corrected = sym a ∙ t .0 in (e, cc, ap bits (t .1) ∙ bits-bytes (take (length information₀) inputs))
       go false e = let t = p .failed e in let q : accepted n ≡ refused Crc = sym a ∙ t .0 in (cc, cc, cc)
 

@@ -13,9 +13,9 @@ use Rattle.bits.proofs.LentPart.{became, became-length}
 use Rattle.coding.specs.Codes.{coded, dcch}
 use Rattle.coding.specs.Registers.{memoryHigh}
 use Rattle.coding.specs.Runs.{Encoded}
-use Rattle.checksums.specs.declared.CrcMode.{CrcMode}
 use Rattle.soft.specs.Reliability.{allFinite, signCount}
 use Rattle.soft.specs.Soft.{SoftFound}
+use Rattle.dcch.specs.declared.crc.CrcMode.{CrcMode}
 use Rattle.dcch.specs.declared.block.Decoded.{Decoded}
 use Rattle.dcch.specs.Blocks.{Finished}
 use Rattle.dcch.specs.SoftBlocks.{signsOf, CellsSearched}

@@ -15,7 +15,6 @@ use Rattle.bits.specs.declared.Refusal.{Refusal}
 use Rattle.bits.specs.declared.Refusal.the-variants.{Crc}
 use Rattle.bits.proofs.LentPart.{became, became-length}
 use Rattle.bits.proofs.Refusing.{never-both, passed-first, passed-exact}
-use Rattle.checksums.specs.declared.CrcMode.{CrcMode}
 use Rattle.soft.specs.Reliability.{isFinite, allFinite, WholeWithin, AllWhole}
 use Rattle.soft.specs.RustOrder.{rustBits}
 use Rattle.soft.specs.Soft.{softWord, totalCost, NoRounding, SoftFound}
@@ -23,6 +22,7 @@ use Rattle.soft.proofs.Tests.{finite-each}
 use Rattle.trellis.specs.Search.{First}
 use Rattle.trellis.specs.Words.{Terminated}
 use Rattle.dcch_interleaver.specs.declared.BlockFormat.{BlockFormat}
+use Rattle.dcch.specs.declared.crc.CrcMode.{CrcMode}
 use Rattle.dcch.specs.declared.block.Decoded.{Decoded}
 use Rattle.dcch.specs.declared.block.Decoded.the-variants as answer
 use Rattle.dcch_interleaver.specs.Formats.{encodedBits, informationBits}

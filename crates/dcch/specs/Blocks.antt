@@ -15,8 +15,6 @@ use Rattle.bits.specs.declared.Refusal.{Refusal}
 use Rattle.bits.specs.declared.Refusal.the-variants.{Crc}
 use Rattle.coding.specs.Codes.{coded, dcch}
 use Rattle.coding.specs.Registers.{memoryHigh}
-use Rattle.checksums.specs.Checksums.{checksumOf, crcValid}
-use Rattle.checksums.specs.declared.CrcMode.{CrcMode}
 use Rattle.trellis.specs.Search.{First}
 use Rattle.trellis.specs.Words.{Terminated}
 use Rattle.viterbi.specs.Hard.{weight}
@@ -24,6 +22,8 @@ use Rattle.dcch_interleaver.specs.declared.BlockFormat.{BlockFormat}
 use Rattle.bits.specs.declared.Wrote.{Wrote}
 use Rattle.bits.specs.Calls.{WriteCall}
 use Rattle.dcch.specs.declared.block.Decoded.{Decoded}
+use Rattle.dcch.specs.declared.crc.CrcMode.{CrcMode}
+use Rattle.dcch.specs.Crc.{blockValid, sentChecksum}
 use Rattle.dcch.specs.declared.block.Decoded.the-variants as decoded
 use Rattle.dcch_interleaver.specs.Formats.{encodedBits, informationBits}
 use Rattle.dcch_interleaver.specs.Wire.{interleaved, deinterleaved}
@@ -35,7 +35,7 @@ inputsOf information checksum = information ++ (unpacked 16 checksum ++ replicat
 
 -- their coded bits, from state 0
 unfoldable pub cellsOf : List Bool → ℕ → CrcMode → List Bool
-cellsOf information dvcc mode = coded dcch (memoryHigh 0) (inputsOf information (checksumOf information dvcc mode))
+cellsOf information dvcc mode = coded dcch (memoryHigh 0) (inputsOf information (sentChecksum information dvcc mode))
 
 -- the block that is sent
 unfoldable pub blockOf : BlockFormat → List Bool → ℕ → CrcMode → List Bool
@@ -61,8 +61,8 @@ decodeArguments f block room = bitsAndRoom (encodedBits f) block (informationBit
 
 -- the end of a decoding: the information and the count where the checksum is right, else Crc and nothing written
 pub record Finished (inputs : List Bool) (corrected dvcc : ℕ) (mode : CrcMode) (information₀ information : List ℕ) (r : Decoded) : Type 0 where
-  pub taken : crcValid (length information₀) inputs dvcc mode ≡ true → (decodeAnswer r ≡ accepted corrected) × (information ≡ bytes (take (length information₀) inputs))
-  pub failed : crcValid (length information₀) inputs dvcc mode ≡ false → (decodeAnswer r ≡ refused Crc) × (information ≡ information₀)
+  pub taken : blockValid (length information₀) inputs dvcc mode ≡ true → (decodeAnswer r ≡ accepted corrected) × (information ≡ bytes (take (length information₀) inputs))
+  pub failed : blockValid (length information₀) inputs dvcc mode ≡ false → (decodeAnswer r ≡ refused Crc) × (information ≡ information₀)
 
 -- what the search of a block finds: the first of the nearest words, as bytes, and its number of disagreements
 pub record FoundWord (f : BlockFormat) (block word : List ℕ) (corrected : ℕ) : Type 0 where

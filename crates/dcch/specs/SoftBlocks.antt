@@ -14,13 +14,13 @@ use Rattle.bits.specs.declared.Refusal.{Refusal}
 use Rattle.bits.specs.declared.Refusal.the-variants.{Crc}
 use Rattle.coding.specs.Codes.{coded, dcch}
 use Rattle.coding.specs.Registers.{memoryHigh}
-use Rattle.checksums.specs.declared.CrcMode.{CrcMode}
 use Rattle.trellis.specs.Search.{First}
 use Rattle.trellis.specs.Words.{Terminated}
 use Rattle.soft.specs.Reliability.{allFinite, AllWhole, signCount}
 use Rattle.soft.specs.RustOrder.{rustBits}
 use Rattle.soft.specs.Soft.{softWord, totalCost, NoRounding, SoftFound}
 use Rattle.dcch_interleaver.specs.declared.BlockFormat.{BlockFormat}
+use Rattle.dcch.specs.declared.crc.CrcMode.{CrcMode}
 use Rattle.dcch.specs.declared.block.Decoded.{Decoded}
 use Rattle.dcch_interleaver.specs.Formats.{encodedBits, informationBits}
 use Rattle.dcch_interleaver.specs.Wire.{deinterleaved}

@@ -1,11 +1,11 @@
 // DCCH blocks: encoding, and decoding of received bits (IS-136.1-A 4.4.3 and 5.2.6). Ported from 136-bts, dcch.rs, and changed (see NOTICE). The contracts cite specs/.
+use crate::crc::CrcMode;
+use crate::crc::sent_checksum;
 use bits::Refusal;
 use bits::Wrote;
 use bits::arguments::Arguments;
 use bits::arguments::bits_and_room;
 use bits::unpack;
-use checksums::CrcMode;
-use checksums::checksum_of_bits;
 use checksums::crc_valid;
 use coding::dcch::convolutional_encode;
 use dcch_interleaver::BlockFormat;
@@ -61,7 +61,8 @@ pub fn finish(
     ensures { λ r. ⌜ Finished (bits (now (inputs .entry))) corrected dvcc mode (now (information .entry)) (now (information .exit)) r ⌝ }
 {
     let n = information.len();
-    let right = crc_valid(n, inputs, dvcc, mode);
+    let checksum = sent_checksum(&inputs[..n], dvcc, mode);
+    let right = crc_valid(n, inputs, checksum);
     if !right {
         return Decoded::Refused(Refusal::Crc);
     }
@@ -76,7 +77,7 @@ fn encode_cells(information: &[u8], dvcc: u8, mode: CrcMode, cells: &mut [u8])
 {
     let steps = information.len() + 21;
     let mut inputs = [0u8; 130];
-    let checksum = checksum_of_bits(information, dvcc, mode);
+    let checksum = sent_checksum(information, dvcc, mode);
     fill_inputs(information, checksum, &mut inputs[..steps]);
     convolutional_encode(0, &inputs[..steps], cells);
 }

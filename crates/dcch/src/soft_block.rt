@@ -2,11 +2,11 @@
 // Ported from 136-bts, dcch.rs, and changed (see NOTICE).
 use crate::block::Decoded;
 use crate::block::finish;
+use crate::crc::CrcMode;
 use bits::Refusal;
 use bits::arguments::Arguments;
 use bits::arguments::exact;
 use bits::arguments::first_refusal;
-use checksums::CrcMode;
 use coding::dcch::convolutional_encode;
 use dcch_interleaver::BlockFormat;
 use dcch_interleaver::deinterleave_soft;

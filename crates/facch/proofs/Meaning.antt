@@ -14,13 +14,14 @@ use Rattle.trellis.specs.Search.{Ambiguous}
 use Rattle.trellis.specs.Words.{OfLength}
 use Rattle.trellis.proofs.AllWords.{all-lists}
 use Rattle.trellis.proofs.Decided.{Decided, nearest-decide, only-shared}
-use Rattle.facch.specs.Decoding.{Content, wordValid, contentOf, finished, decodeOf}
+use Rattle.words.specs.Words.{wordValid}
+use Rattle.facch.specs.Decoding.{Content, contentOf, finished, decodeOf}
 use Rattle.facch.specs.Search.{weight}
 
 -- no end of a word is Ambiguous
 finished-clear : (w : List Bool) (corrected observed dvcc : ℕ) → finished w corrected observed dvcc ≡ refused refusal.Ambiguous → ⊥
 unfolding finished
-finished-clear w corrected observed dvcc = by (wordValid w dvcc)
+finished-clear w corrected observed dvcc = by (wordValid 1 w dvcc)
   where
     by : (right : Bool) → cond right (accepted (contentOf w corrected observed)) (refused refusal.Crc) ≡ refused refusal.Ambiguous → ⊥
     by true e = let z : _≡_ {A = ℕ} 0 1 = cc in omega arith

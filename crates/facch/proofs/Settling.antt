@@ -17,14 +17,14 @@ use Rattle.bits.specs.declared.Refusal.the-variants as refusal
 use Rattle.bits.proofs.Binary.{bits-bytes, binary-bytes}
 use Rattle.trellis.specs.declared.Outcome.{Outcome}
 use Rattle.trellis.proofs.Decided.{decided-alone, decided-shared}
-use Rattle.words.specs.Words.{messageIn}
+use Rattle.words.specs.Words.{messageIn, wordValid}
 use Rattle.words.proofs.Parts.{flag}
-use Rattle.facch.specs.Decoding.{Content, contentOf, wordValid, finished, decodeOf, decoding}
+use Rattle.facch.specs.Decoding.{Content, contentOf, finished, decodeOf, decoding}
 use Rattle.facch.specs.Search.{weight, Searched}
 use Rattle.facch.proofs.Meaning.{too-few, facch-decided}
 
 -- ---- `finish`
-module _ (word : List ℕ) (corrected observed dvcc : ℕ) {right : Bool} (told : right ≡ wordValid (bits word) dvcc) where
+module _ (word : List ℕ) (corrected observed dvcc : ℕ) {right : Bool} (told : right ≡ wordValid 1 (bits word) dvcc) where
   finished-by : (t : Bool) → right ≡ t → cond t (accepted (contentOf (bits word) corrected observed)) (refused refusal.Crc) ≡ finished (bits word) corrected observed dvcc
   unfolding finished
   finished-by t e = ap (λ (b : Bool). cond b (accepted (contentOf (bits word) corrected observed)) (refused refusal.Crc)) (sym e ∙ told)

@@ -12,9 +12,7 @@ use Rattle.bits.specs.declared.arguments.Arguments.{Arguments}
 use Rattle.bits.specs.declared.arguments.Arguments.the-variants.{Passed, Refused}
 use Rattle.bits.specs.declared.Refusal.the-variants as refusal
 use Rattle.trellis.specs.Nearest.{allWords, decided}
-use Rattle.checksums.specs.Checksums.{crcValid}
-use Rattle.checksums.specs.declared.CrcMode.the-variants.{Addressed}
-use Rattle.words.specs.Words.{messageIn}
+use Rattle.words.specs.Words.{messageIn, wordValid}
 use Rattle.facch.specs.declared.Decoded.{Decoded}
 use Rattle.facch.specs.declared.Decoded.the-variants as decoded
 use Rattle.facch.specs.Search.{weight}
@@ -37,13 +35,9 @@ unfoldable pub contentOf : List Bool → ℕ → ℕ → Content
 contentOf w corrected observed =
     record { continuation = getD w 0 false; message = messageIn 1 w; corrected = corrected; observed = observed }
 
--- whether the checksum in a word is that of its first 49 bits
-abbrev pub wordValid : List Bool → ℕ → Bool
-wordValid w dvcc = crcValid 49 w dvcc Addressed
-
 -- the content of a word where its checksum is right, else Crc
 unfoldable pub finished : List Bool → ℕ → ℕ → ℕ → Answer Content
-finished w corrected observed dvcc = cond (wordValid w dvcc) (accepted (contentOf w corrected observed)) (refused refusal.Crc)
+finished w corrected observed dvcc = cond (wordValid 1 w dvcc) (accepted (contentOf w corrected observed)) (refused refusal.Crc)
 
 -- Fewer than 65 observed bits are too few. Else the word of 65 bits that alone has the fewest disagreements decides, with their number; where two or more share
 -- the fewest, Ambiguous.

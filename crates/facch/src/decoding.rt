@@ -7,8 +7,6 @@ use bits::arguments::Arguments;
 use bits::arguments::exact_bits;
 use bits::observed::count_observed;
 use bits::observed::exact_erasable;
-use checksums::CrcMode;
-use checksums::crc_valid;
 ghost use mathlib.Core.Bool.{true};
 ghost use mathlib.Core.Path.{_≡_};
 ghost use Prim.Native.Nat.{_≤_};
@@ -22,7 +20,7 @@ fn finish(word: &[u8], corrected: u16, observed: u16, dvcc: u8) -> Decoded
     requires { ⌜ (length (now word) ≡ 65) × (allBinary (now word) ≡ true) ⌝ }
     ensures { λ r. ⌜ decodeAnswer r ≡ finished (bits (now (word .entry))) corrected observed dvcc ⌝ }
 {
-    let right = crc_valid(49, word, dvcc, CrcMode::Addressed);
+    let right = words::valid(1, word, dvcc);
     if !right {
         return Decoded::Refused(Refusal::Crc);
     }

@@ -24,10 +24,10 @@ use Rattle.trellis.specs.Words.{OfLength}
 use Rattle.trellis.proofs.Decided.{decided-alone}
 use Rattle.bits.specs.Observed.{erasedDiffer, observedOne, observedCount}
 use Rattle.bits.specs.declared.Wrote.{Wrote}
-use Rattle.words.specs.Words.{madeOf}
+use Rattle.words.specs.Words.{madeOf, wordValid}
 use Rattle.words.proofs.Made.{made-length, made-valid, made-message}
 use Rattle.facch.specs.Words.{wordOf, tailBiting, Encoding}
-use Rattle.facch.specs.Decoding.{contentOf, wordValid, finished, decoding, erasedArguments, decodeArguments}
+use Rattle.facch.specs.Decoding.{contentOf, finished, decoding, erasedArguments, decodeArguments}
 use Rattle.facch.specs.Search.{weight}
 use Rattle.facch.proofs.Meaning.{facch-decided}
 use Rattle.bits.proofs.Refusing.{exact-passed, binary-passed, below-passed, erasable-passed}
@@ -43,7 +43,7 @@ module _ (received : List ℕ) (w : List Bool) (size : length w ≡ 65) (agrees 
   clear : Ambiguous (OfLength 65) (weight received) → ⊥
   clear a = a .distinct (nearest-is (a .one) (a .one-nearest) ∙ sym (nearest-is (a .other) (a .other-nearest)))
 
-  pub agreed : (arguments : Arguments) (dvcc : ℕ) → arguments ≡ Passed → 65 ≤ observedCount received → wordValid w dvcc ≡ true
+  pub agreed : (arguments : Arguments) (dvcc : ℕ) → arguments ≡ Passed → 65 ≤ observedCount received → wordValid 1 w dvcc ≡ true
       → decoding arguments received dvcc ≡ accepted (contentOf w 0 (observedCount received))
   unfolding finished
   agreed arguments dvcc passed many right =
@@ -103,8 +103,8 @@ module _ (continuation : Bool) (message dvcc : ℕ) where
   pub word-length : length (wordOf continuation message dvcc) ≡ 65
   word-length = made-length (continuation ∷ []) message dvcc
 
-  pub valid-own : wordValid (wordOf continuation message dvcc) dvcc ≡ true
-  valid-own = made-valid (continuation ∷ []) message dvcc refl
+  pub valid-own : wordValid 1 (wordOf continuation message dvcc) dvcc ≡ true
+  valid-own = made-valid (continuation ∷ []) message dvcc 1 refl
 
   pub content-own : (observed : ℕ) → message < 2 ^ 48
       → contentOf (wordOf continuation message dvcc) 0 observed ≡ record { continuation = continuation; message = message; corrected = 0; observed = observed }

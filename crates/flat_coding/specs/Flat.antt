@@ -10,8 +10,6 @@ use Rattle.bits.specs.Refusals.{Answer, accepted, refused, numberOf}
 use Rattle.bits.specs.declared.Refusal.{Refusal}
 use Rattle.bits.specs.declared.Refusal.the-variants.{Symbol, State}
 use Rattle.coding.specs.Registers.{Stepped}
-use Rattle.checksums.specs.declared.CrcMode.{CrcMode}
-use Rattle.checksums.specs.declared.CrcMode.the-variants.{Broadcast, Addressed}
 use Rattle.flat_coding.specs.declared.Step.{Step}
 use Rattle.flat_coding.specs.declared.Checksum.{Checksum}
 use Rattle.bits.specs.declared.arguments.Arguments.{Arguments}
@@ -40,6 +38,3 @@ pub record StepAnswer (code : List (List Bool)) (memory : ℕ → List Bool) (st
 abbrev pub flatChecksum : Answer ℕ → Checksum
 flatChecksum (accepted x) = record { refusal = 0; value = x }
 flatChecksum (refused why) = record { refusal = numberOf why; value = 0 }
-
-abbrev pub modeOf : Bool → CrcMode
-modeOf broadcast = cond broadcast Broadcast Addressed

@@ -6,13 +6,12 @@ use bits::Refusal;
 use bits::arguments::Arguments;
 use bits::refusals::number;
 use checksums::Checked;
-use checksums::CrcMode;
 ghost use mathlib.Core.Path.{_≡_};
 ghost use Rattle.bits.specs.Bits.{bits};
-ghost use Rattle.checksums.specs.Checksums.{answerOf, checksum7Of, checksumOf, answerForBits};
+ghost use Rattle.checksums.specs.Checksums.{answerForBits, answerOf, checksum7Of, checksumFrom};
 ghost use Rattle.coding.specs.Codes.{acelp, dcch, facch};
 ghost use Rattle.coding.specs.Registers.{memoryHigh, memoryLow};
-ghost use Rattle.flat_coding.specs.Flat.{StepAnswer, flatChecksum, stepArguments, modeOf, noStep};
+ghost use Rattle.flat_coding.specs.Flat.{StepAnswer, flatChecksum, noStep, stepArguments};
 
 #[repr(C)]
 pub struct Step {
@@ -101,17 +100,7 @@ pub fn acelp_transition(state: u8, input: u8) -> Step
     }
 }
 
-pub fn mode_of(broadcast: bool) -> CrcMode
-    ensures { λ r. ⌜ r ≡ modeOf broadcast ⌝ }
-{
-    if broadcast {
-        CrcMode::Broadcast
-    } else {
-        CrcMode::Addressed
-    }
-}
-
-fn flat_checksum(checked: Checked) -> Checksum
+pub fn flat_checksum(checked: Checked) -> Checksum
     ensures { λ r. ⌜ r ≡ flatChecksum (answerOf checked) ⌝ }
 {
     match checked {
@@ -123,11 +112,11 @@ fn flat_checksum(checked: Checked) -> Checksum
     }
 }
 
-// The 16-bit checksum of information under a colour code, complemented for broadcast.
-pub fn checksum16(information: &[u8], dvcc: u8, broadcast: bool) -> Checksum
-    ensures { λ r. ⌜ r ≡ flatChecksum (answerForBits (now (information .entry)) (checksumOf (bits (now (information .entry))) dvcc (modeOf broadcast))) ⌝ }
+// The register of the 16-bit checksum after the information.
+pub fn checksum_from(register: u16, information: &[u8]) -> Checksum
+    ensures { λ r. ⌜ r ≡ flatChecksum (answerForBits (now (information .entry)) (checksumFrom register (bits (now (information .entry))))) ⌝ }
 {
-    flat_checksum(checksums::checksum(information, dvcc, mode_of(broadcast)))
+    flat_checksum(checksums::checksum_from(register, information))
 }
 
 // The 7-bit checksum of a speech frame's information.

@@ -1,6 +1,6 @@
 -- An answer of a codec, made flat. Assumes nothing.
 use mathlib.Core.Path.{_≡_, subst}
-use Rattle.checksums.specs.declared.CrcMode.{CrcMode}
+use Rattle.dcch.specs.declared.crc.CrcMode.{CrcMode}
 use Rattle.bits.specs.declared.Wrote.{Wrote}
 use Rattle.bits.specs.Calls.{wroteAnswer}
 use Rattle.dcch.specs.declared.block.Decoded.{Decoded}

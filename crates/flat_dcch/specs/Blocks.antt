@@ -1,10 +1,16 @@
 -- What the flat functions over DCCH blocks answer.
 use mathlib.Core.Path.{_≡_}
+use mathlib.Core.Bool.{Bool, cond}
 use Rattle.bits.specs.Refusals.{numberOf, expectedOf, actualOf}
 use Rattle.bits.specs.declared.Refusal.{Refusal}
+use Rattle.dcch.specs.declared.crc.CrcMode.{CrcMode}
+use Rattle.dcch.specs.declared.crc.CrcMode.the-variants.{Broadcast, Addressed}
 use Rattle.dcch.specs.declared.block.Decoded.{Decoded}
 use Rattle.dcch.specs.declared.block.Decoded.the-variants as decoded
 use Rattle.flat_dcch.specs.declared.Block.{Block}
+
+abbrev pub modeOf : Bool → CrcMode
+modeOf broadcast = cond broadcast Broadcast Addressed
 
 abbrev pub noBlock : Refusal → Block
 noBlock why = record { refusal = numberOf why; expected = expectedOf why; actual = actualOf why; corrected = 0 }

@@ -1,17 +1,22 @@
-// Flat functions over `dcch`: one for each format, since C has no enum of ours. Each answers a number of document 01, or 0 with its result.
+// Flat functions over `dcch`: the checksum, and one function for each format, since C has no enum of ours. Each answers a number of document 01, or 0 with its result.
 use bits::Refusal;
 use dcch::BlockFormat;
+use dcch::CrcMode;
 use dcch::Decoded;
+use flat_coding::Checksum;
 use flat_coding::calls::Written;
 use flat_coding::calls::flat_wrote;
 use flat_coding::calls::not_written;
-use flat_coding::mode_of;
+use flat_coding::flat_checksum;
 ghost use mathlib.Core.Path.{_≡_};
+ghost use Rattle.bits.specs.Bits.{bits};
+ghost use Rattle.checksums.specs.Checksums.{answerForBits};
 ghost use Rattle.dcch.specs.Blocks.{Decoding, Encoding};
+ghost use Rattle.dcch.specs.Crc.{sentChecksum};
 ghost use Rattle.dcch.specs.SoftBlocks.{SoftDecoding};
-ghost use Rattle.flat_dcch.specs.Blocks.{FlatDecoded, flatBlock, noBlock};
+ghost use Rattle.flat_dcch.specs.Blocks.{FlatDecoded, flatBlock, modeOf, noBlock};
 ghost use Rattle.flat_coding.specs.Calls.{FlatWrote};
-ghost use Rattle.flat_coding.specs.Flat.{modeOf};
+ghost use Rattle.flat_coding.specs.Flat.{flatChecksum};
 
 // corrected is that of an accepted decoding; expected and actual are those of a refusal for length.
 #[repr(C)]
@@ -20,6 +25,23 @@ pub struct Block {
     pub expected: usize,
     pub actual: usize,
     pub corrected: u16,
+}
+
+pub fn mode_of(broadcast: bool) -> CrcMode
+    ensures { λ r. ⌜ r ≡ modeOf broadcast ⌝ }
+{
+    if broadcast {
+        CrcMode::Broadcast
+    } else {
+        CrcMode::Addressed
+    }
+}
+
+// The checksum of information under a colour code, complemented for broadcast.
+pub fn checksum(information: &[u8], dvcc: u8, broadcast: bool) -> Checksum
+    ensures { λ r. ⌜ r ≡ flatChecksum (answerForBits (now (information .entry)) (sentChecksum (bits (now (information .entry))) dvcc (modeOf broadcast))) ⌝ }
+{
+    flat_checksum(dcch::checksum(information, dvcc, mode_of(broadcast)))
 }
 
 fn no_block(why: Refusal) -> Block

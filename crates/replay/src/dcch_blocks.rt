@@ -10,7 +10,7 @@ use calls::arguments::asks;
 use calls::arguments::at;
 use calls::arguments::byte_at;
 use calls::arguments::flag_at;
-use checksums::CrcMode;
+use dcch::CrcMode;
 use dcch::Decoded;
 use dcch_interleaver::BlockFormat;
 ghost use Prim.Native.Nat.{_≤_};
@@ -96,7 +96,7 @@ pub fn run(call: &[u8], counts: usize, numbers: &[u64], input: &[u8], room: &mut
 {
     let format = format_of(at(numbers, 0));
     let dvcc = byte_at(numbers, 1);
-    let mode = flat_coding::mode_of(flag_at(numbers, 2));
+    let mode = flat_dcch::mode_of(flag_at(numbers, 2));
     if asks(b"encode", call, counts, 311) {
         return wrote(dcch::encode(format, input, dvcc, mode, room));
     }

@@ -4,8 +4,8 @@ use calls::answers::part;
 use calls::answers::write;
 use calls::arguments::at;
 use calls::arguments::byte_at;
-use calls::arguments::field_at;
 use calls::arguments::put_number;
+use calls::arguments::u16_at;
 use sacch_encoder::SacchEncoder;
 use sacch_interleaver::SacchDeinterleaver;
 use sacch_receiver::Lock;
@@ -17,7 +17,7 @@ const UNLOCKED: u64 = 256;
 fn twelve(numbers: &[u64], from: usize) -> [u16; 12] {
     let mut list = [0u16; 12];
     for i in 0..12usize {
-        list[i] = field_at(numbers, wrapping_add_usize(from, i));
+        list[i] = u16_at(numbers, wrapping_add_usize(from, i));
     }
     list
 }
@@ -25,7 +25,7 @@ fn twelve(numbers: &[u64], from: usize) -> [u16; 12] {
 fn eleven(numbers: &[u64], from: usize) -> [u16; 11] {
     let mut list = [0u16; 11];
     for i in 0..11usize {
-        list[i] = field_at(numbers, wrapping_add_usize(from, i));
+        list[i] = u16_at(numbers, wrapping_add_usize(from, i));
     }
     list
 }

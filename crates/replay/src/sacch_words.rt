@@ -22,8 +22,8 @@ use calls::answers::wrote;
 use calls::arguments::asks;
 use calls::arguments::at;
 use calls::arguments::byte_at;
-use calls::arguments::field_at;
 use calls::arguments::flag_at;
+use calls::arguments::u16_at;
 use sacch_decoder::Decoded;
 use sacch_decoder::SacchWord;
 use sacch_encoder::EncodedField;
@@ -147,7 +147,7 @@ fn show_row(pushed: PushedRow, numbers: &[u64]) {
 fn deinterleaver_call(call: &[u8], counts: usize, numbers: &[u64]) -> bool {
     if asks(b"deinterleave", call, counts, 1500) {
         let deinterleaver = deinterleaver_of(numbers, 1);
-        show_row(deinterleaver.push(field_at(numbers, 0)), numbers);
+        show_row(deinterleaver.push(u16_at(numbers, 0)), numbers);
         return true;
     }
     if asks(b"reset_deinterleaver", call, counts, 1400) {
@@ -161,7 +161,7 @@ fn deinterleaver_call(call: &[u8], counts: usize, numbers: &[u64]) -> bool {
 
 // `pushed FIELD DVCC`, so for `push_outcome` and `push`, and `discontinuity`, each before a receiver.
 fn receiver_call(call: &[u8], counts: usize, numbers: &[u64]) -> bool {
-    let field = field_at(numbers, 0);
+    let field = u16_at(numbers, 0);
     let dvcc = byte_at(numbers, 1);
     if asks(b"pushed", call, counts, 3100) {
         let receiver = receiver_of(numbers, 2);

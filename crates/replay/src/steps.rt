@@ -8,6 +8,7 @@ use calls::answers::unknown;
 use calls::arguments::asks;
 use calls::arguments::byte_at;
 use calls::arguments::flag_at;
+use calls::arguments::u16_at;
 use flat_coding::Checksum;
 use flat_coding::Step;
 
@@ -60,11 +61,15 @@ pub fn step(call: &[u8], counts: usize, numbers: &[u64]) -> Answer {
     unknown()
 }
 
-// `checksum DVCC BROADCAST BITS`, `checksum7 BITS`, `search CODED WORD`.
+// `checksum DVCC BROADCAST BITS`, `checksum_from REGISTER BITS`, `checksum7 BITS`, `search CODED WORD`.
 pub fn run(call: &[u8], counts: usize, numbers: &[u64], input: &[u8], room: &mut [u8]) -> Answer {
     if asks(b"checksum", call, counts, 210) {
         let dvcc = byte_at(numbers, 0);
-        return checked(flat_coding::checksum16(input, dvcc, flag_at(numbers, 1)));
+        return checked(flat_dcch::checksum(input, dvcc, flag_at(numbers, 1)));
+    }
+    if asks(b"checksum_from", call, counts, 110) {
+        let register = u16_at(numbers, 0);
+        return checked(flat_coding::checksum_from(register, input));
     }
     if asks(b"checksum7", call, counts, 10) {
         return checked(flat_coding::checksum7(input));

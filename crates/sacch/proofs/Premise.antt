@@ -17,14 +17,14 @@ use Rattle.bits.proofs.Binary.{bits-bytes}
 use Rattle.bits.proofs.Packed.{unpacked-length}
 use Rattle.bits.proofs.Tested.{below}
 use Rattle.checksums.specs.Checksums.{added, checksumOf, crcValid, divided}
-use Rattle.words.specs.Words.{madeOf}
+use Rattle.words.specs.Words.{madeOf, wordValid}
 use Rattle.sacch_interleaver.specs.Diagonal.{allTwelve}
 use Rattle.sacch_interleaver.proofs.Diagonal.{field-fits}
 use Rattle.sacch_encoder.specs.Words.{codedRow, memoryAfter}
 use Rattle.sacch_encoder.specs.Encoder.{encoded, encoderFits, fieldNow, fieldsFrom}
 use Rattle.sacch_encoder.specs.declared.SacchEncoder.{SacchEncoder}
 use Rattle.sacch_encoder.proofs.Fits.{fit-of}
-use Rattle.sacch_decoder.specs.Decoding.{decodeOf, finished, wordValid}
+use Rattle.sacch_decoder.specs.Decoding.{decodeOf, finished}
 use Rattle.sacch_decoder.specs.declared.SacchWord.{SacchWord}
 use Rattle.sacch_decoder.proofs.Meaning.{finished-taken, taken-finished}
 use Rattle.sacch_decoder.proofs.Weighing.{as-sent}
@@ -129,9 +129,9 @@ module _ (w : List Bool) (dvcc : ℕ) where
   accepted-word e = let t = finished-taken w 0 dvcc e in rw (t .reserved, t .right)
 
   other-word : ((x : SacchWord) → finished w 0 dvcc ≡ accepted x → ⊥) → isWord w dvcc ≡ false
-  other-word none = by (getD w 1 false) refl (wordValid w dvcc) refl
+  other-word none = by (getD w 1 false) refl (wordValid 2 w dvcc) refl
     where
-      by : (reserved : Bool) → getD w 1 false ≡ reserved → (valid : Bool) → wordValid w dvcc ≡ valid → (not reserved && valid) ≡ false
+      by : (reserved : Bool) → getD w 1 false ≡ reserved → (valid : Bool) → wordValid 2 w dvcc ≡ valid → (not reserved && valid) ≡ false
       by true r valid v = refl
       by false r false v = refl
       by false r true v = absurd (none _ (taken-finished w 0 dvcc r v))

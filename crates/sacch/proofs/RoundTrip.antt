@@ -31,4 +31,4 @@ module _ (continuation : Bool) (message dvcc : ℕ) where
   unfolding madeOf
   sacch-round-trip s hs h =
       as-sent s hs (wordOf continuation message dvcc) word-length dvcc
-      ∙ taken-finished (wordOf continuation message dvcc) 0 dvcc refl (made-valid (continuation ∷ false ∷ []) message dvcc refl) ∙ ap accepted (content-own h)
+      ∙ taken-finished (wordOf continuation message dvcc) 0 dvcc refl (made-valid (continuation ∷ false ∷ []) message dvcc 2 refl) ∙ ap accepted (content-own h)

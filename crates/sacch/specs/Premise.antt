@@ -6,7 +6,7 @@ use mathlib.Core.List.{List, [], _∷_, _++_}
 use Prim.Native.Nat.{ℕ, _+_, _-_, _*_, _≤_}
 use lib.ListN.{getD, take, drop}
 use Rattle.sacch_encoder.specs.Words.{wordOf}
-use Rattle.sacch_decoder.specs.Decoding.{wordValid}
+use Rattle.words.specs.Words.{wordValid}
 use Rattle.sacch.specs.Calls.{Given}
 use Rattle.sacch.specs.Listening.{Begins}
 
@@ -21,7 +21,7 @@ heardBits dvcc given m = take 66 (drop (6 * (m - 1)) (bitsSent dvcc given))
 
 -- 66 bits are a word: the second is zero and the checksum right
 abbrev pub isWord : List Bool → ℕ → Bool
-isWord w dvcc = not (getD w 1 false) && wordValid w dvcc
+isWord w dvcc = not (getD w 1 false) && wordValid 2 w dvcc
 
 -- off a boundary, the bits heard with field n are no word
 abbrev pub NoWordHeard : ℕ → ℕ → List Given → ℕ → Type 0

@@ -15,7 +15,8 @@ use Rattle.viterbi.specs.Hard.{freeWeight}
 use Rattle.trellis.proofs.AllWords.{all-lists}
 use Rattle.trellis.proofs.Members.{some-nearest}
 use Rattle.trellis.proofs.Decided.{Decided, nearest-decide, decided-alone, decided-shared, only-shared}
-use Rattle.sacch_decoder.specs.Decoding.{wordValid, contentOf, finished, decodeOf}
+use Rattle.words.specs.Words.{wordValid}
+use Rattle.sacch_decoder.specs.Decoding.{contentOf, finished, decodeOf}
 use Rattle.sacch_decoder.specs.declared.SacchWord.{SacchWord}
 
 -- ---- one word
@@ -27,7 +28,7 @@ module _ (w : List Bool) (corrected dvcc : ℕ) where
   -- no end of it is Ambiguous
   finished-clear : finished w corrected dvcc ≡ refused refusal.Ambiguous → ⊥
   unfolding finished
-  finished-clear = by (getD w 1 false) (wordValid w dvcc)
+  finished-clear = by (getD w 1 false) (wordValid 2 w dvcc)
     where
       by : (reserved right : Bool) → cond reserved (refused refusal.Reserved) (cond right (accepted (contentOf w corrected)) (refused refusal.Crc)) ≡ refused refusal.Ambiguous → ⊥
       by true right e = let z : _≡_ {A = ℕ} 0 1 = cc in omega arith
@@ -36,21 +37,21 @@ module _ (w : List Bool) (corrected dvcc : ℕ) where
 
   pub record Taken (x : SacchWord) : Type 0 where
     pub reserved : getD w 1 false ≡ false
-    pub right : wordValid w dvcc ≡ true
+    pub right : wordValid 2 w dvcc ≡ true
     pub content : x ≡ contentOf w corrected
 
   -- where it is accepted
   pub finished-taken : {x : SacchWord} → finished w corrected dvcc ≡ accepted x → Taken x
   unfolding finished
-  finished-taken {x} = by (getD w 1 false) refl (wordValid w dvcc) refl
+  finished-taken {x} = by (getD w 1 false) refl (wordValid 2 w dvcc) refl
     where
-      by : (reserved : Bool) → getD w 1 false ≡ reserved → (right : Bool) → wordValid w dvcc ≡ right
+      by : (reserved : Bool) → getD w 1 false ≡ reserved → (right : Bool) → wordValid 2 w dvcc ≡ right
           → cond reserved (refused refusal.Reserved) (cond right (accepted (contentOf w corrected)) (refused refusal.Crc)) ≡ accepted x → Taken x
       by true a right b e = clash e refl
       by false a true b e = record { reserved = a; right = b; content = cc }
       by false a false b e = clash e refl
 
-  pub taken-finished : getD w 1 false ≡ false → wordValid w dvcc ≡ true → finished w corrected dvcc ≡ accepted (contentOf w corrected)
+  pub taken-finished : getD w 1 false ≡ false → wordValid 2 w dvcc ≡ true → finished w corrected dvcc ≡ accepted (contentOf w corrected)
   unfolding finished
   taken-finished a b = rw (a, b)
 

@@ -17,10 +17,10 @@ use Rattle.trellis.specs.Search.{Found}
 use Rattle.trellis.specs.Words.{OfLength}
 use Rattle.trellis.specs.declared.Outcome.{Outcome}
 use Rattle.viterbi.specs.Hard.{freeWeight}
-use Rattle.words.specs.Words.{messageIn}
+use Rattle.words.specs.Words.{messageIn, wordValid}
 use Rattle.words.proofs.Parts.{flag}
 use Rattle.trellis.proofs.Decided.{found-decides}
-use Rattle.sacch_decoder.specs.Decoding.{wordValid, contentOf, finished, decodeOf, decodeArguments, decoding}
+use Rattle.sacch_decoder.specs.Decoding.{contentOf, finished, decodeOf, decodeArguments, decoding}
 use Rattle.sacch_decoder.specs.declared.SacchWord.{SacchWord}
 use Rattle.sacch_decoder.proofs.Meaning.{sacch-decided}
 
@@ -37,7 +37,7 @@ module _ (word : List ℕ) (binary : allBinary word ≡ true) where
   }
 
   -- ---- `finish`
-  pub finished-is : (tie : Bool) (corrected dvcc : ℕ) {right : Bool} {x : SacchWord} → right ≡ wordValid (bits word) dvcc → x ≡ contentOf (bits word) corrected
+  pub finished-is : (tie : Bool) (corrected dvcc : ℕ) {right : Bool} {x : SacchWord} → right ≡ wordValid 2 (bits word) dvcc → x ≡ contentOf (bits word) corrected
       → cond tie (refused refusal.Ambiguous) (cond (eqb (getD word 1 0) 1) (refused refusal.Reserved) (cond right (accepted x) (refused refusal.Crc)))
       ≡ cond tie (refused refusal.Ambiguous) (finished (bits word) corrected dvcc)
   unfolding finished

@@ -10,9 +10,7 @@ use Rattle.bits.specs.Arguments.{exactBits}
 use Rattle.bits.specs.declared.arguments.Arguments.{Arguments}
 use Rattle.bits.specs.declared.arguments.Arguments.the-variants.{Passed, Refused}
 use Rattle.bits.specs.declared.Refusal.the-variants as refusal
-use Rattle.checksums.specs.Checksums.{crcValid}
-use Rattle.checksums.specs.declared.CrcMode.the-variants.{Addressed}
-use Rattle.words.specs.Words.{messageIn}
+use Rattle.words.specs.Words.{messageIn, wordValid}
 use Rattle.viterbi.specs.Hard.{freeWeight}
 use Rattle.trellis.specs.Nearest.{allWords, decided}
 use Rattle.sacch_decoder.specs.declared.SacchWord.{SacchWord}
@@ -25,10 +23,6 @@ decodeAnswer (decoded.Accepted word) = accepted word
 decodeAnswer (decoded.Refused why) = refused why
 
 -- ---- one word
--- whether the checksum in a word is that of its first 50 bits
-abbrev pub wordValid : List Bool → ℕ → Bool
-wordValid w dvcc = crcValid 50 w dvcc Addressed
-
 -- the content of a word that has so many disagreements; the memory that it leaves is its last five bits, the newest highest
 unfoldable pub contentOf : List Bool → ℕ → SacchWord
 contentOf w corrected =
@@ -37,7 +31,7 @@ contentOf w corrected =
 -- Reserved where its second bit is set, then Crc where its checksum differs
 unfoldable pub finished : List Bool → ℕ → ℕ → Answer SacchWord
 finished w corrected dvcc =
-    cond (getD w 1 false) (refused refusal.Reserved) (cond (wordValid w dvcc) (accepted (contentOf w corrected)) (refused refusal.Crc))
+    cond (getD w 1 false) (refused refusal.Reserved) (cond (wordValid 2 w dvcc) (accepted (contentOf w corrected)) (refused refusal.Crc))
 
 -- ---- the received bits
 -- The word of 66 bits, newest first, that alone has the fewest disagreements over the 32 starting memories decides, with their number; where two or more share

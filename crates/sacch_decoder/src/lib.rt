@@ -4,8 +4,6 @@ use bits::Refusal;
 use bits::arguments::Arguments;
 use bits::arguments::exact_bits;
 use bits::pack;
-use checksums::CrcMode;
-use checksums::crc_valid;
 use trellis::Outcome;
 ghost use mathlib.Core.Bool.{cond, true};
 ghost use mathlib.Core.List.{reverse};
@@ -79,7 +77,7 @@ fn finish(word: &[u8], found: Outcome, dvcc: u8) -> Decoded
     requires { ⌜ (length (now word) ≡ 66) × (allBinary (now word) ≡ true) ⌝ }
     ensures { λ r. ⌜ decodeAnswer r ≡ cond (found .tie) (refused Ambiguous) (finished (bits (now (word .entry))) (found .metric) dvcc) ⌝ }
 {
-    let right = crc_valid(50, word, dvcc, CrcMode::Addressed);
+    let right = words::valid(2, word, dvcc);
     let content = content(word, found.metric);
     verdict(found.tie, word[1] == 1, right, content)
 }

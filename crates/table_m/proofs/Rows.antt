@@ -3,7 +3,7 @@ use mathlib.Core.Path.{refl}
 use lib.Dec.{lit<}
 use Rattle.bits.specs.Numbers.{packed, unpacked}
 use Rattle.coding.specs.Codes.{tapped}
-use Rattle.checksums.specs.Checksums.{added, divided, checksumOf}
+use Rattle.checksums.specs.Checksums.{added, checksumFrom, divided}
 use Rattle.acelp_cc1.specs.Frames.{informationPlace}
 use Rattle.dcch_interleaver.specs.Wire.{across, everySecond, wireOrder, cellAt}
 use Rattle.facch_interleaver.specs.Wire.{table, placeOf}
@@ -11,7 +11,7 @@ use Rattle.speech.specs.Classes.{isClassTwo}
 use Rattle.table_m.specs.TableM.{TableM}
 
 pub table-m : TableM
-unfolding tapped packed unpacked added divided checksumOf informationPlace across everySecond wireOrder cellAt table placeOf isClassTwo
+unfolding tapped packed unpacked added divided checksumFrom informationPlace across everySecond wireOrder cellAt table placeOf isClassTwo
 table-m = record {
   dcch-step-of-one = record { sent = refl; below = lit< tt; holds = refl };
   dcch-step-of-zero = record { sent = refl; below = lit< tt; holds = refl };

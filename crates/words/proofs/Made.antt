@@ -11,10 +11,10 @@ use Rattle.bits.specs.Bits.{bit, byte, bits, bytes, allBinary}
 use Rattle.bits.specs.Numbers.{packed, unpacked}
 use Rattle.bits.proofs.Binary.{bits-bytes, binary-bytes, binary-cons}
 use Rattle.bits.proofs.Packed.{packed-unpacked-below, unpacked-length}
-use Rattle.checksums.specs.Checksums.{checksumOf, crcValid}
-use Rattle.checksums.specs.declared.CrcMode.the-variants.{Addressed}
+use Rattle.checksums.specs.Checksums.{checksumOf}
+use Rattle.checksums.proofs.Answers.{checksum-below}
 use Rattle.checksums.proofs.Tested.{own-valid}
-use Rattle.words.specs.Words.{informationOf, madeOf, messageIn}
+use Rattle.words.specs.Words.{informationOf, madeOf, messageIn, wordValid}
 
 -- ---- a flag as the first byte of a header
 pub flag-bit : (b : Bool) → bit (boolByte b) ≡ b
@@ -30,21 +30,21 @@ module _ (header : List Bool) (message dvcc : ℕ) where
   information = informationOf header message
 
   abbrev checked : List Bool
-  checked = unpacked 16 (checksumOf information dvcc Addressed)
+  checked = unpacked 16 (checksumOf information dvcc)
 
   information-length : length information ≡ length header + 48
   information-length = length-append header (unpacked 48 message) ∙ ap (λ (n : ℕ). length header + n) (unpacked-length 48 message)
 
   pub made-length : length (madeOf header message dvcc) ≡ length header + 64
   unfolding madeOf
-  made-length = omega (arith, length-append information checked, information-length, unpacked-length 16 (checksumOf information dvcc Addressed))
+  made-length = omega (arith, length-append information checked, information-length, unpacked-length 16 (checksumOf information dvcc))
 
   -- its checksum is right
-  pub made-valid : {n : ℕ} → length header + 48 ≡ n → crcValid n (madeOf header message dvcc) dvcc Addressed ≡ true
+  pub made-valid : (h : ℕ) → length header ≡ h → wordValid h (madeOf header message dvcc) dvcc ≡ true
   unfolding madeOf
-  made-valid {n} e =
-      ap (λ (l : List Bool). crcValid n (information ++ l) dvcc Addressed) (sym (append-nil checked))
-      ∙ own-valid information [] dvcc Addressed (sym e ∙ sym information-length)
+  made-valid h e =
+      ap (λ (l : List Bool). wordValid h (information ++ l) dvcc) (sym (append-nil checked))
+      ∙ own-valid (λ (u : List Bool). checksumOf u dvcc) (h + 48) information [] (checksum-below information dvcc) (omega (arith, information-length))
 
   -- and the message is in it
   pub made-message : {h : ℕ} → length header ≡ h → message < 2 ^ 48 → messageIn h (madeOf header message dvcc) ≡ message

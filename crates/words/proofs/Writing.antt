@@ -12,7 +12,6 @@ use Rattle.bits.specs.Numbers.{unpacked}
 use Rattle.bits.proofs.Binary.{bits-bytes, bytes-bits, bytes-append, binary-bytes}
 use Rattle.bits.proofs.Packed.{unpacked-length}
 use Rattle.checksums.specs.Checksums.{checksumOf}
-use Rattle.checksums.specs.declared.CrcMode.the-variants.{Addressed}
 use Rattle.words.specs.Words.{informationOf, madeOf}
 
 -- the message in the places from h to h + 47
@@ -63,15 +62,15 @@ module _ (word : List ℕ) (h message : ℕ) (size : length word ≡ h + 64) (bi
   m = h + 48 + 16 - (h + 48)
 
   pub completed : (dvcc : ℕ) {checksum : ℕ} {last : List ℕ}
-      → checksum ≡ checksumOf (bits (take (h + 48) (putMid h n word part))) dvcc Addressed
+      → checksum ≡ checksumOf (bits (take (h + 48) (putMid h n word part))) dvcc
       → last ≡ bytes (unpacked (length (take m (drop (h + 48) (putMid h n word part)))) checksum)
       → putMid (h + 48) m (putMid h n word part) last ≡ bytes (madeOf header message dvcc)
   unfolding madeOf
   completed dvcc {checksum} {last} ec el =
-      let e : checksum ≡ checksumOf information dvcc Addressed =
-      ec ∙ ap (λ (l : List ℕ). checksumOf (bits l) dvcc Addressed) front ∙ ap (λ (u : List Bool). checksumOf u dvcc Addressed) (bits-bytes information) in
+      let e : checksum ≡ checksumOf information dvcc =
+      ec ∙ ap (λ (l : List ℕ). checksumOf (bits l) dvcc) front ∙ ap (λ (u : List Bool). checksumOf u dvcc) (bits-bytes information) in
       let room : length (take m (drop (h + 48) (putMid h n word part))) ≡ 16 = length-take-le m (drop (h + 48) (putMid h n word part)) (omega (arith, back)) ∙ omega arith in
       let none : drop m (drop (h + 48) (putMid h n word part)) ≡ [] = drop-of-length-le (drop (h + 48) (putMid h n word part)) {i = m} (omega (arith, back)) in
       ap₂ (λ (a b : List ℕ). a ++ (last ++ b)) front none
       ∙ ap (λ (l : List ℕ). bytes information ++ l) (append-nil last ∙ el ∙ ap₂ (λ (k x : ℕ). bytes (unpacked k x)) room e)
-      ∙ sym (bytes-append information (unpacked 16 (checksumOf information dvcc Addressed)))
+      ∙ sym (bytes-append information (unpacked 16 (checksumOf information dvcc)))

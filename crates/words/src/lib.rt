@@ -2,14 +2,14 @@
 // Ported from 136-bts, facch.rs and sacch.rs, and changed (see NOTICE).
 use bits::pack;
 use bits::unpack;
-use checksums::CrcMode;
 use checksums::checksum_of_bits;
+use checksums::crc_valid;
 ghost use mathlib.Core.Bool.{true};
 ghost use mathlib.Core.Path.{_≡_};
 ghost use Prim.Native.Nat.{_+_, _≤_};
 ghost use lib.ListN.{length, take};
 ghost use Rattle.bits.specs.Bits.{allBinary, bits, bytes};
-ghost use Rattle.words.specs.Words.{madeOf, messageIn};
+ghost use Rattle.words.specs.Words.{madeOf, messageIn, wordValid};
 
 // Messages have 48 bits.
 pub const MESSAGES: u64 = 0x1000000000000;
@@ -21,7 +21,7 @@ pub fn complete(header: usize, message: u64, dvcc: u8, word: &mut [u8])
 {
     let end = header + 48;
     unpack(message, &mut word[header..end]);
-    let checksum = checksum_of_bits(&word[..end], dvcc, CrcMode::Addressed);
+    let checksum = checksum_of_bits(&word[..end], dvcc);
     unpack(checksum as u64, &mut word[end..end + 16]);
 }
 
@@ -31,4 +31,14 @@ pub fn message(header: usize, word: &[u8]) -> u64
     ensures { λ r. ⌜ r ≡ messageIn header (bits (now (word .entry))) ⌝ }
 {
     pack(&word[header..header + 48])
+}
+
+// Whether the checksum in a word with a header of so many bits is right.
+pub fn valid(header: usize, word: &[u8], dvcc: u8) -> bool
+    requires { ⌜ (header + 64 ≤ length (now word)) × (allBinary (now word) ≡ true) ⌝ }
+    ensures { λ r. ⌜ r ≡ wordValid header (bits (now (word .entry))) dvcc ⌝ }
+{
+    let end = header + 48;
+    let wanted = checksum_of_bits(&word[..end], dvcc);
+    crc_valid(end, word, wanted)
 }

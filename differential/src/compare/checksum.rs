@@ -1,8 +1,9 @@
-//! The 16-bit checksum, and the 7-bit one against ACELP's and speech's.
+//! The 16-bit checksum, whole and from a register, and the 7-bit one against ACELP's and speech's.
 use crate::calls::{bools, only_bits};
 use crate::phy::dcch::{self, CrcMode};
 use crate::phy::{acelp_cc1, speech};
 use crate::port::{self, Checksum};
+use crate::registers;
 
 pub const SYMBOL: Checksum = Checksum {
     refusal: 2,
@@ -25,6 +26,15 @@ pub fn checksum(information: &[u8], dvcc: u8, mode: CrcMode) -> Checksum {
     let wanted = wanted(information, |bits| dcch::probe::checksum(bits, dvcc, mode));
     let answer = port::checksum(information, dvcc, mode == CrcMode::Broadcast);
     assert_eq!(answer, wanted, "{dvcc} {mode:?} {information:?}");
+    answer
+}
+
+/// Against the Rust's after bits that leave this register.
+#[track_caller]
+pub fn checksum_from(register: u16, information: &[u8]) -> Checksum {
+    let wanted = wanted(information, |bits| registers::checksum_from(register, bits));
+    let answer = port::checksum_from(register, information);
+    assert_eq!(answer, wanted, "{register:04x} {information:?}");
     answer
 }
 

@@ -6,6 +6,7 @@ use differential::channel::{Channel, FORMATS};
 use differential::compare::dcch::{mixture, not_finite, overflows_late, soft_channel};
 use differential::phy::dcch as rust;
 use differential::prng::Prng;
+use differential::registers;
 use differential::reliabilities::ALL_SIZES;
 use differential::tally::Tally;
 
@@ -154,6 +155,12 @@ fn checksums() {
         assert_eq!(port, rust::probe::checksum(&bits, c.dvcc, c.mode));
     }
     tally.part("0 to 599 bits", 600);
+    for len in 0..600 {
+        let (register, bits) = (p.below(1 << 16) as u16, p.bits(len));
+        let port = port::checksum_from(register, &bits);
+        assert_eq!(port, registers::checksum_from(register, &bits));
+    }
+    tally.part("from a register", 600);
     tally.end();
 }
 

@@ -22,6 +22,12 @@ unsafe extern "C" {
         dvcc: u8,
         broadcast: bool,
     ) -> Crc;
+    /// The register of that checksum after any number of bits, from a given one, not complemented.
+    pub fn bts136_checksum_from(
+        register_before: u16,
+        information: *const u8,
+        information_len: usize,
+    ) -> Crc;
     /// The 7-bit checksum of any number of a speech frame's bits.
     pub fn bts136_checksum7(information: *const u8, information_len: usize) -> Crc;
     /// The nearest word from state 0 that ends in five zeros: the search of DCCH. 10 to 260

@@ -51,6 +51,8 @@ fn coding(program: &mut Program) {
     }
     let sixteen = flat::checksum(&bits(50), 90, true).value;
     program.value("bts136_checksum(bits, 50, 90, true).value", sixteen);
+    let register = flat::checksum_from(0x29b1, &bits(50)).value;
+    program.value("bts136_checksum_from(0x29b1, bits, 50).value", register);
     let seven = flat::checksum7(&bits(48)).value;
     program.value("bts136_checksum7(bits, 48).value", seven);
 }

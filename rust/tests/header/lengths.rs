@@ -110,6 +110,7 @@ fn a_wrong_length_is_refused_before_a_byte_is_read() {
     }
     // Document 01, Table M: the checksum of no information under the colour code 1.
     program.value("bts136_checksum(NULL, 0, 1, false).value", 4129);
+    program.value("bts136_checksum_from(4129, NULL, 0).value", 4129);
     program.value("bts136_checksum7(NULL, 0).value", 0);
     assert!(tried > 0);
     if program.compare("lengths", BEFORE).is_some() {

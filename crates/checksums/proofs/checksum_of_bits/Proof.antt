@@ -10,18 +10,14 @@ four-in-requires c κs = search needs
 four-in-requires-2 : tie.Need-four-in-requires-2
 four-in-requires-2 c κs = search needs
 
-run-by-fours-requires : tie.Need-run-by-fours-requires
-run-by-fours-requires c κs = search needs
-
-sent-requires : tie.Need-sent-requires
-sent-requires c κs = search needs
+checksum-from-bits-requires : tie.Need-checksum-from-bits-requires
+checksum-from-bits-requires c κs = search needs
 
 returns : tie.Need-returns
 returns c =
-    let entry = c .before .before .before .before .before .args in
-    value16 (entry .information .now) (entry .dvcc) (entry .mode) (c .before .before .before .four-in .ensures) (c .before .before .four-in2 .ensures) (c .before .run-by-fours .ensures) (c .sent .ensures)
+    let entry = c .before .before .before .before .args in
+    value16 (entry .information .now) (entry .dvcc) (c .before .before .four-in .ensures) (c .before .four-in2 .ensures) (c .checksum-from-bits .ensures)
 
 pub checksum-of-bits-spec : {M : Type 1} → statement M
 checksum-of-bits-spec =
-    tie.close
-    (tie.spec four-in-requires four-in-requires-2 run-by-fours-requires sent-requires returns)
+    tie.close (tie.spec four-in-requires four-in-requires-2 checksum-from-bits-requires returns)

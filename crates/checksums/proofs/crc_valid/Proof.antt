@@ -1,7 +1,5 @@
--- `checksums::crc_valid` meets its contract: the number in the word against the checksum. Assumes nothing.
+-- `checksums::crc_valid` meets its contract: the number in the word against the one given. Assumes nothing.
 use native.Mathlib.Omega.{arith}
-use Rattle.bits.proofs.Binary.{binary-take}
-use Rattle.bits.proofs.LentPart.{part-length}
 use Rattle.bits.proofs.Packed.{asks-pack}
 use Rattle.checksums.proofs.Tested.{valid-is}
 use borrow.Author.Needs.{needs}
@@ -23,19 +21,10 @@ part-pack-end c = search needs
 pack-requires : tie.Need-pack-requires
 pack-requires c κs = asks-pack 16 (c .before .before .args .information) (c .before .before .args .word .now) (omega arith) (c .before .before .pre .1)
 
-slice-aggregate-checksum-of-bits : tie.Need-slice-aggregate-checksum-of-bits
-slice-aggregate-checksum-of-bits c = part-length _ (c .before .before .before .before .args .word .now) (omega arith)
-
-checksum-of-bits-requires : tie.Need-checksum-of-bits-requires
-checksum-of-bits-requires c κs = search (needs, binary-take)
-
-cast-result : tie.Need-cast-result
-cast-result c = search needs
-
 returns : tie.Need-returns
 returns c =
-    let start = c .before .before .before .before .before in
-    valid-is (start .args .word .now) (start .args .dvcc) (start .args .mode) (start .args .information) (c .before .before .pack .ensures) (c .checksum-of-bits .ensures)
+    let start = c .before .before .before .args in
+    valid-is (start .word .now) (start .information) _ (c .pack .ensures)
 
 pub crc-valid-spec : {M : Type 1} → statement M
 crc-valid-spec =
@@ -46,7 +35,4 @@ crc-valid-spec =
     part-pack-start
     part-pack-end
     pack-requires
-    slice-aggregate-checksum-of-bits
-    checksum-of-bits-requires
-    cast-result
     returns)

@@ -5,8 +5,8 @@ use borrow.Author.Needs.{needs}
 use Rattle.sacch_decoder.proofs.finish.Statement.{statement}
 use Rattle.sacch_decoder.proofs.finish.Tie as tie
 
-crc-valid-requires : tie.Need-crc-valid-requires
-crc-valid-requires c κs = search needs
+valid-requires : tie.Need-valid-requires
+valid-requires c κs = search needs
 
 content-requires : tie.Need-content-requires
 content-requires c κs = search needs
@@ -19,15 +19,15 @@ verdict-requires c κs = search needs
 
 returns : tie.Need-returns
 returns c =
-    let at-crc-valid = c .before .before .before in
-    let entry = at-crc-valid .before .before in
-    c .verdict .ensures ∙ finished-is _ (entry .pre .1) (entry .args .found .tie) _ _ (at-crc-valid .crc-valid .ensures) (c .before .before .content .ensures)
+    let at-valid = c .before .before .before in
+    let entry = at-valid .before .before in
+    c .verdict .ensures ∙ finished-is _ (entry .pre .1) (entry .args .found .tie) _ _ (at-valid .valid .ensures) (c .before .before .content .ensures)
 
 pub finish-spec : {M : Type 1} → statement M
 finish-spec =
     tie.close
     (tie.spec
-    crc-valid-requires
+    valid-requires
     content-requires
     shared-slice-read-verdict
     verdict-requires

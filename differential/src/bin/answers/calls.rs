@@ -8,6 +8,7 @@ use differential::phy::facch::{self, FacchError, FacchWord, WordHalf};
 use differential::phy::sacch::{self, SacchError, SacchWord};
 use differential::phy::speech::{self, CrcStatus, SpeechBits, SpeechError};
 use differential::port_sacch::{number, refusal, unpacked};
+use differential::registers;
 
 const MESSAGES: u64 = 1 << 48;
 
@@ -162,6 +163,11 @@ fn coding(line: &Line) -> Told {
             let mode = mode(line.numbers[1]);
             let sum = dcch::probe::checksum(&bits(&given[0]), line.byte(0), mode);
             Ok((format!("value {sum:x}"), vec![]))
+        }),
+        "checksum_from" => lend(line, &[length], &[], |given| {
+            let register = line.numbers[0] as u16;
+            let after = registers::checksum_from(register, &bits(&given[0]));
+            Ok((format!("value {after:x}"), vec![]))
         }),
         "checksum7" => lend(line, &[length], &[], |given| {
             let sum = acelp_cc1::probe::checksum(&bits(&given[0]));

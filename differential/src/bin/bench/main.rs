@@ -17,6 +17,7 @@ use differential::phy::dcch::{BlockFormat, CrcMode, probe};
 use differential::phy::{self, acelp_cc1, dcch};
 use differential::port;
 use differential::prng::Prng;
+use differential::registers::eight;
 use differential::reliabilities::Sizes;
 use differential::timing::{Contender, times};
 use std::env::args;
@@ -110,7 +111,9 @@ fn repeat(cases: &mut [Case], name: &str, count: usize) {
 
 fn cases() -> Vec<Case> {
     let mut p = Prng(SEED);
-    let mut cases = vec![steps(), checksum(&mut p), checksum7(&mut p)];
+    let mut cases = vec![steps()];
+    cases.extend(checksum(&mut p));
+    cases.push(checksum7(&mut p));
     let damages = [("clean", Some(0)), ("6-flips", Some(6)), ("random", None)];
     for (name, flips) in damages {
         cases.push(search(name, &blocks(&mut p, Ends::Zero, 130, flips)));
@@ -182,20 +185,35 @@ fn steps() -> Case {
     }
 }
 
-fn checksum(p: &mut Prng) -> Case {
+/// The whole, and from the register of the colour code, which the Rust has no way to hold.
+fn checksum(p: &mut Prng) -> [Case; 2] {
     let bits = random_bits(p, 109);
-    let bytes = all_bytes(&bits);
+    let whole = all_bytes(&bits);
+    let rest = whole.clone();
+    let held = port::checksum_from(0, &bytes(&eight(DVCC))).value;
     let port = Contender::new("port", move |i| {
-        black_box(port::checksum(black_box(&bytes[i % INPUTS]), DVCC, false));
+        black_box(port::checksum(black_box(&whole[i % INPUTS]), DVCC, false));
     });
-    let rust = Contender::new("rust", move |i| {
-        let information = black_box(&bits[i % INPUTS]);
-        black_box(probe::checksum(information, DVCC, CrcMode::Addressed));
+    let from = Contender::new("port", move |i| {
+        let information = black_box(&rest[i % INPUTS]);
+        black_box(port::checksum_from(black_box(held), information));
     });
-    Case {
-        name: "checksum-109".into(),
-        contenders: vec![port, rust],
-    }
+    let rust = |bits: Vec<Vec<bool>>| {
+        Contender::new("rust", move |i| {
+            let information = black_box(&bits[i % INPUTS]);
+            black_box(probe::checksum(information, DVCC, CrcMode::Addressed));
+        })
+    };
+    [
+        Case {
+            name: "checksum-109".into(),
+            contenders: vec![port, rust(bits.clone())],
+        },
+        Case {
+            name: "checksum-109-held".into(),
+            contenders: vec![from, rust(bits)],
+        },
+    ]
 }
 
 fn checksum7(p: &mut Prng) -> Case {

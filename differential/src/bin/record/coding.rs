@@ -16,6 +16,8 @@ pub fn calls(p: &mut Prng) {
     }
     section("checksums of 16 bits: DVCC, broadcast or not, information");
     checksums(p);
+    section("registers of that checksum: the one before, information");
+    registers(&mut Prng(0x1021));
     section("checksums of seven bits: information");
     checksums7(p);
     section("nearest words of DCCH's code: coded bits, room for the word");
@@ -49,6 +51,27 @@ fn checksum(information: &[bool], dvcc: u8, broadcast: u8) {
         "coding checksum {dvcc:x} {broadcast} :{}",
         text(information)
     );
+}
+
+/// From the registers at the ends, from those that the colour codes 1 and ff leave, and from others.
+/// Drawn apart, so that the calls around them stay as they are.
+fn registers(p: &mut Prng) {
+    for len in [0, 1, 2, 3, 4, 5, 8, 49, 50, 79, 101, 109] {
+        for register in [0, 1, 0x1021, 0x1ef0, 0x7fff, 0x8000, 0xffff] {
+            register_after(register, &p.bits(len));
+        }
+    }
+    for _ in 0..40 {
+        let len = p.below(161);
+        register_after(p.below(1 << 16), &p.bits(len));
+    }
+    for run in ["300x1", "*,299x0", "299x0,*", "300x0@2", "300x0@3"] {
+        println!("coding checksum_from ffff :{run}");
+    }
+}
+
+fn register_after(register: usize, information: &[bool]) {
+    println!("coding checksum_from {register:x} :{}", text(information));
 }
 
 fn checksums7(p: &mut Prng) {

@@ -10,8 +10,8 @@ use Rattle.dcch.proofs.block.encode_cells.Tie as tie
 add-steps : tie.Need-add-steps
 add-steps c = search needs
 
-checksum-of-bits-requires : tie.Need-checksum-of-bits-requires
-checksum-of-bits-requires c κs = search needs
+sent-checksum-requires : tie.Need-sent-checksum-requires
+sent-checksum-requires c κs = search needs
 
 array-borrow-prefix-inputs : tie.Need-array-borrow-prefix-inputs
 array-borrow-prefix-inputs c = search needs
@@ -42,16 +42,16 @@ returns : tie.Need-returns
 returns c =
     let begin = c .before .before .before .before .before .before .before .before .before .before .before in
     let filled = c .before .before .before .before .before .before .fill-inputs in
-    let at-checksum-of-bits = c .before .before .before .before .before .before .before .before in
-    let entry = at-checksum-of-bits .before .before .before in
-    cells-coded (entry .args .information .now) (entry .pre .0) (entry .pre .1) (begin .args .dvcc) (begin .args .mode) _ _ (filled .kept .1 .1 .0) (filled .ensures) (at-checksum-of-bits .checksum-of-bits .ensures) (c .before .before .convolutional-encode .ensures)
+    let at-sent-checksum = c .before .before .before .before .before .before .before .before in
+    let entry = at-sent-checksum .before .before .before in
+    cells-coded (entry .args .information .now) (entry .pre .0) (entry .pre .1) (begin .args .dvcc) (begin .args .mode) _ _ (filled .kept .1 .1 .0) (filled .ensures) (at-sent-checksum .sent-checksum .ensures) (c .before .before .convolutional-encode .ensures)
 
 pub encode-cells-spec : {M : Type 1} → statement M
 encode-cells-spec =
     tie.close
     (tie.spec
     add-steps
-    checksum-of-bits-requires
+    sent-checksum-requires
     array-borrow-prefix-inputs
     slice-aggregate-fill-inputs
     fill-inputs-requires

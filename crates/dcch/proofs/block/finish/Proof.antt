@@ -2,11 +2,18 @@
 use native.Mathlib.Omega.{arith}
 use lib.ListN.{length}
 use lib.Seq.{length-take-le}
+use Rattle.bits.proofs.Binary.{binary-take}
 use Rattle.bits.proofs.LentPart.{part-length}
 use Rattle.dcch.proofs.Finishing.{failed-end, taken-end}
 use borrow.Author.Needs.{needs}
 use Rattle.dcch.proofs.block.finish.Statement.{statement}
 use Rattle.dcch.proofs.block.finish.Tie as tie
+
+slice-aggregate-sent-checksum : tie.Need-slice-aggregate-sent-checksum
+slice-aggregate-sent-checksum c = part-length _ _ (omega arith)
+
+sent-checksum-requires : tie.Need-sent-checksum-requires
+sent-checksum-requires c κs = search (needs, binary-take)
 
 crc-valid-requires : tie.Need-crc-valid-requires
 crc-valid-requires c κs = search needs
@@ -14,15 +21,16 @@ crc-valid-requires c κs = search needs
 returns : tie.Need-returns
 returns c =
     let tested = c .before in
-    let entry = tested .before .before .before in
-    failed-end (entry .args .inputs .now) (entry .args .information .now) (entry .pre .0) (entry .pre .1) _ _ _ (tested .crc-valid .ensures) (c .if1 .taken)
+    let summed = tested .before in
+    let entry = summed .before .before .before .before in
+    failed-end (entry .args .inputs .now) (entry .args .information .now) (entry .pre .0) (entry .pre .1) _ _ _ (summed .sent-checksum .ensures) (tested .crc-valid .ensures) (c .if1 .taken)
 
 slice-aggregate-copy : tie.Need-slice-aggregate-copy
 slice-aggregate-copy c = part-length _ _ (omega arith)
 
 copy-requires : tie.Need-copy-requires
 copy-requires c κs =
-    let entry = c .before .before .before .before .before .before in
+    let entry = c .before .before .before .before .before .before .before .before in
     omega (arith, length-take-le (length (entry .args .information .now)) (entry .args .inputs .now) (omega arith))
 
 same-length : tie.Need-same-length
@@ -33,8 +41,9 @@ returns-2 c =
     let copied = c .before .before in
     let left = copied .before .before .before in
     let tested = left .before in
-    let entry = tested .before .before .before in
-    taken-end (entry .args .inputs .now) (entry .args .information .now) (entry .pre .0) (entry .pre .1) _ _ _ (tested .crc-valid .ensures) (left .if1 .left) (copied .copy .ensures .1)
+    let summed = tested .before in
+    let entry = summed .before .before .before .before in
+    taken-end (entry .args .inputs .now) (entry .args .information .now) (entry .pre .0) (entry .pre .1) _ _ _ (summed .sent-checksum .ensures) (tested .crc-valid .ensures) (left .if1 .left) (copied .copy .ensures .1)
 
 pub finish-spec : {M : Type 1} → statement M
-finish-spec = tie.close (tie.spec crc-valid-requires returns slice-aggregate-copy copy-requires same-length returns-2)
+finish-spec = tie.close (tie.spec slice-aggregate-sent-checksum sent-checksum-requires crc-valid-requires returns slice-aggregate-copy copy-requires same-length returns-2)

@@ -16,8 +16,8 @@ loop-holds c = search needs
 wrapping-add-usize-requires : tie.Need-wrapping-add-usize-requires Inv-loop μ-loop
 wrapping-add-usize-requires c κs = search needs
 
-field-at-requires : tie.Need-field-at-requires Inv-loop μ-loop
-field-at-requires c κs = search needs
+u16-at-requires : tie.Need-u16-at-requires Inv-loop μ-loop
+u16-at-requires c κs = search needs
 
 mul-list : tie.Need-mul-list Inv-loop μ-loop
 mul-list c = search needs
@@ -45,7 +45,7 @@ twelve-spec =
     μ-loop
     loop-holds
     wrapping-add-usize-requires
-    field-at-requires
+    u16-at-requires
     mul-list
     array-write-list
     add-i

@@ -49,6 +49,12 @@ pub fn checksum(p: &mut Prng) -> Compared {
     Compared::one(checksum::checksum(&information, dvcc, mode).refusal)
 }
 
+pub fn checksum_from(p: &mut Prng) -> Compared {
+    let information = information(p, &[50, 49, 79, 101, 109]);
+    let register = p.below(1 << 16) as u16;
+    Compared::one(checksum::checksum_from(register, &information).refusal)
+}
+
 /// ACELP's, or one in four VSELP's.
 pub fn checksum7(p: &mut Prng) -> Compared {
     let answer = match p.below(4) {

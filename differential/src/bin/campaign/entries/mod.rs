@@ -28,11 +28,12 @@ const fn entry(name: &'static str, share: u64, draw: fn(&mut Prng) -> Compared) 
     Entry { name, share, draw }
 }
 
-pub static ENTRIES: [Entry; 29] = [
+pub static ENTRIES: [Entry; 30] = [
     entry("dcch::transition", SMALL, coding::dcch_step),
     entry("facch::transition", SMALL, coding::facch_step),
     entry("acelp_cc1::transition", SMALL, coding::acelp_step),
     entry("dcch::checksum", COMMON, coding::checksum),
+    entry("checksum_from", COMMON, coding::checksum_from),
     entry("acelp_cc1::checksum", COMMON, coding::checksum7),
     entry("dcch::viterbi", COMMON, coding::search),
     entry("viterbi_free", COMMON, coding::free_search),

@@ -1,11 +1,12 @@
--- `flat_coding::checksum16` meets its contract. Assumes nothing.
+-- `flat_dcch::checksum` meets its contract. Assumes nothing.
 use mathlib.Core.Path.{ap, _∙_}
 use Rattle.bits.specs.Bits.{bits}
-use Rattle.checksums.specs.Checksums.{checksumOf, answerForBits}
+use Rattle.checksums.specs.Checksums.{answerForBits}
+use Rattle.dcch.specs.Crc.{sentChecksum}
 use Rattle.flat_coding.specs.Flat.{flatChecksum}
 use borrow.Author.Needs.{needs}
-use Rattle.flat_coding.proofs.checksum16.Statement.{statement}
-use Rattle.flat_coding.proofs.checksum16.Tie as tie
+use Rattle.flat_dcch.proofs.checksum.Statement.{statement}
+use Rattle.flat_dcch.proofs.checksum.Tie as tie
 
 mode-of-requires : tie.Need-mode-of-requires
 mode-of-requires c κs = search needs
@@ -20,8 +21,8 @@ returns : tie.Need-returns
 returns c =
     let information = c .before .before .before .before .args .information .now in
     c .flat-checksum .ensures ∙ ap flatChecksum (c .before .checksum .ensures)
-    ∙ ap (λ m. flatChecksum (answerForBits information (checksumOf (bits information) (c .before .before .before .before .args .dvcc) m))) (c .before .before .mode-of .ensures)
+    ∙ ap (λ m. flatChecksum (answerForBits information (sentChecksum (bits information) (c .before .before .before .before .args .dvcc) m))) (c .before .before .mode-of .ensures)
 
-pub checksum16-spec : {M : Type 1} → statement M
-checksum16-spec =
+pub checksum-spec : {M : Type 1} → statement M
+checksum-spec =
     tie.close (tie.spec mode-of-requires checksum-requires flat-checksum-requires returns)

@@ -1,18 +1,20 @@
--- `checksums::run_by_fours` meets its contract: the bits left, into the register, end where all of them end. Assumes nothing.
+-- `checksums::checksum_from_bits` meets its contract: the bits left, into the register, end where all of them end. Assumes nothing.
+use mathlib.Core.Path.{sym, _∙_}
 use Prim.Native.Nat.{_-_}
 use native.Mathlib.Omega.{arith}
 use lib.ListN.{length}
 use Rattle.bits.proofs.Binary.{binary-at}
 use Rattle.checksums.proofs.Fours.{ByFours, by-fours-none, by-fours-more, part-binary, by-fours-done}
+use Rattle.checksums.proofs.Runs.{from-after}
 use borrow.Author.Needs.{needs}
-use Rattle.checksums.proofs.run_by_fours.Statement.{statement}
-use Rattle.checksums.proofs.run_by_fours.Tie as tie
+use Rattle.checksums.proofs.checksum_from_bits.Statement.{statement}
+use Rattle.checksums.proofs.checksum_from_bits.Tie as tie
 
 abbrev Inv-loop : tie.InvT-loop
-Inv-loop register s x₀ i₀ x i = ByFours s register x i
+Inv-loop register information x₀ i₀ x i = ByFours information register x i
 
 abbrev μ-loop : tie.MeasureT-loop
-μ-loop register s x₀ i₀ x i = length s - i
+μ-loop register information x₀ i₀ x i = length information - i
 
 loop-holds : tie.Need-loop-holds Inv-loop μ-loop
 loop-holds c = by-fours-none _ _ (omega arith)
@@ -72,10 +74,10 @@ run-requires : tie.Need-run-requires Inv-loop μ-loop
 run-requires c κs = (omega arith, omega arith, part-binary (c .before .before .loop .inv) (c .before .before .before .before .pre))
 
 returns : tie.Need-returns Inv-loop μ-loop
-returns c = by-fours-done (c .before .before .before .loop .inv) (c .run .ensures)
+returns c = by-fours-done (c .before .before .before .loop .inv) (c .run .ensures) ∙ sym (from-after _ _)
 
-pub run-by-fours-spec : {M : Type 1} → statement M
-run-by-fours-spec =
+pub checksum-from-bits-spec : {M : Type 1} → statement M
+checksum-from-bits-spec =
     tie.close
     (tie.spec
     Inv-loop
