@@ -1,11 +1,11 @@
 -- The checksum as DCCH sends it is the original's: a run of the register from 0 over the colour code and then the information. Assumes nothing.
 use mathlib.Core.Path.{_≡_, sym, ap, ap₂}
 use mathlib.Core.Bool.{Bool}
-use mathlib.Core.List.{List, _++_}
-use Prim.Native.Nat.{ℕ, _-_, _<_}
+use mathlib.Core.List.{List}
+use Prim.Native.Nat.{ℕ, _<_}
 use native.Mathlib.Omega.{arith}
-use Rattle.bits.specs.Numbers.{packed, unpacked}
-use Rattle.checksums.specs.Checksums.{ccitt, checkBits, checksumFrom, checksumOf}
+use Rattle.bits.specs.Numbers.{unpacked}
+use Rattle.checksums.specs.Checksums.{checksumFrom, checksumOf}
 use Rattle.checksums.proofs.Answers.{checksum-below}
 use Rattle.checksums.proofs.Runs.{from-colour}
 use Rattle.dcch.specs.Crc.{complemented, sentChecksum}

@@ -1,16 +1,14 @@
 -- What `encode` and `encode_cells` ask of their calls, with their scratch arrays lent in part, and what they answer. Assumes nothing.
-use mathlib.Core.Path.{_≡_, refl, sym, ap, ap₂, subst, _∙_}
-use mathlib.Core.Bool.{Bool, true, false}
+use mathlib.Core.Path.{_≡_, refl, sym, ap, _∙_}
+use mathlib.Core.Bool.{Bool, true}
 use mathlib.Core.List.{List, _++_}
 use Prim.Native.Nat.{ℕ, _+_, _-_, _*_, _<_, _≤_}
 use native.Mathlib.Omega.{arith}
 use lib.ListN.{length, take, drop, replicate, length-replicate, replicate-append-replicate}
 use lib.Seq.{length-take-le, take-at}
 use Rattle.bits.specs.Bits.{bits, bytes, allBinary}
-use Rattle.bits.specs.Refusals.{accepted, refused}
 use Rattle.bits.specs.declared.arguments.Arguments.{Arguments}
-use Rattle.bits.specs.declared.arguments.Arguments.the-variants.{Passed, Refused}
-use Rattle.bits.specs.declared.Refusal.{Refusal}
+use Rattle.bits.specs.declared.arguments.Arguments.the-variants.{Passed}
 use Rattle.bits.proofs.Binary.{bits-bytes, binary-bytes}
 use Rattle.bits.proofs.LentPart.{became, became-length}
 use Rattle.bits.proofs.Refusing.{passed-room}

@@ -3,10 +3,9 @@ use mathlib.Core.Path.{_≡_}
 use mathlib.Core.Bool.{Bool, true, false}
 use mathlib.Core.List.{List, _++_, reverse}
 use Prim.Native.Nat.{ℕ, _/_}
-use lib.Dec.{eqb}
-use lib.ListN.{length, take, drop, replicate}
+use lib.ListN.{length, take, replicate}
 use Rattle.bits.specs.Bits.{bits, bytes}
-use Rattle.bits.specs.Numbers.{packed, unpacked}
+use Rattle.bits.specs.Numbers.{unpacked}
 use Rattle.bits.specs.Refusals.{Answer, accepted, refused}
 use Rattle.bits.specs.Arguments.{bitsAndRoom}
 use Rattle.bits.specs.declared.arguments.Arguments.{Arguments}

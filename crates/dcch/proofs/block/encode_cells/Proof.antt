@@ -1,6 +1,5 @@
 -- `dcch::block::encode_cells` meets its contract: the inputs are filled, and coded from state 0. Assumes nothing.
 use native.Mathlib.Omega.{arith}
-use lib.ListN.{length}
 use Rattle.bits.proofs.LentPart.{part-length, whole-length}
 use Rattle.dcch.proofs.Encodings.{asks-fill, asks-encode, cells-coded}
 use borrow.Author.Needs.{needs}
