@@ -23,7 +23,12 @@ pub fn eight(byte: u8) -> [bool; 8] {
     std::array::from_fn(|place| byte >> (7 - place) & 1 == 1)
 }
 
+/// The colour code and the bits after it that leave a register.
+pub fn left_by(register: u16) -> (u8, [bool; 8]) {
+    LEFT_BY[usize::from(register)]
+}
+
 pub fn checksum_from(register: u16, information: &[bool]) -> u16 {
-    let (dvcc, first) = LEFT_BY[usize::from(register)];
+    let (dvcc, first) = left_by(register);
     checksum(&[&first, information].concat(), dvcc, CrcMode::Addressed)
 }

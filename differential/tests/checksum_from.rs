@@ -7,7 +7,7 @@ use differential::phy::dcch::CrcMode;
 use differential::phy::dcch::probe::checksum;
 use differential::port;
 use differential::prng::Prng;
-use differential::registers::eight;
+use differential::registers::{eight, left_by};
 use differential::tally::Tally;
 
 const LONG: [usize; 6] = [511, 512, 1000, 4099, 65537, 100_002];
@@ -47,7 +47,7 @@ fn registers() {
     tally.end();
 }
 
-/// Over one run and then over a second it is that over both.
+/// Over one run and then over a second it ends as over both, by the port alone.
 #[test]
 fn runs_join() {
     let mut p = Prng(0x10);
@@ -58,7 +58,9 @@ fn runs_join() {
         let whole = after(before, &bits);
         for place in 0..=len {
             let (first, second) = bits.split_at(place);
-            assert_eq!(after(after(before, first), second), whole);
+            let held = port::checksum_from(before, &bytes(first)).value;
+            let both = port::checksum_from(held, &bytes(second)).value;
+            assert_eq!(both, whole, "{before:04x} {first:?} {second:?}");
             splits += 1;
         }
     }
@@ -91,16 +93,19 @@ fn held_colours() {
 }
 
 /// The check values of the published catalogues, of the digits 1 to 9 in ASCII: CRC-16/XMODEM from
-/// 0, CRC-16/IBM-3740 from ffff, and CRC-16/GENIBUS, which complements that.
+/// 0, CRC-16/IBM-3740 from ffff, and CRC-16/GENIBUS, which complements that, as Broadcast does.
 #[test]
 fn published() {
     let digits: Vec<bool> = b"123456789".iter().flat_map(|one| eight(*one)).collect();
     assert_eq!(after(0, &digits), 0x31c3);
     assert_eq!(after(0xffff, &digits), 0x29b1);
-    assert_eq!(!after(0xffff, &digits), 0xd64e);
+    let (dvcc, first) = left_by(0xffff);
+    let joined = bytes(&[&first, &digits[..]].concat());
+    assert_eq!(port::checksum(&joined, dvcc, true).value, 0xd64e);
     // Document 01, Table M.
     assert_eq!(after(0, &eight(1)), 4129);
-    assert_eq!(!after(0, &eight(0)), 65535);
+    assert_eq!(port::checksum(&[], 1, false).value, 4129);
+    assert_eq!(port::checksum(&[], 0, true).value, 65535);
 }
 
 #[test]

@@ -1,7 +1,7 @@
 //! DCCH blocks, as `phy::dcch` has them.
 //!
-//! `decode_soft` and `checksum` are public here, and [`checksum_from`] is new; `transition` is in [`flat`], since it refuses a
-//! state above 31. An error also has its [`number`](BlockError::number).
+//! `decode_soft` and `checksum` are public here, and [`checksum_from`] is new; `transition` is in
+//! [`flat`], since it refuses a state above 31. An error also has its [`number`](BlockError::number).
 //!
 //! ```
 //! use bts136::dcch::{self, BlockFormat, CrcMode};
@@ -227,9 +227,9 @@ pub fn checksum(information: &[bool], dvcc: u8, mode: CrcMode) -> u16 {
     value(flat::checksum(&byte_list(information), dvcc, broadcast))
 }
 
-/// The register of the checksum after any number of bits, from a given one; FACCH and SACCH have
-/// the same. Over one run of bits and then over a second it is that over both joined, so the
-/// register of a colour code can be held and its eight bits run once. It is not complemented.
+/// The register of the checksum after any number of bits, from a given one, not complemented. FACCH
+/// and SACCH have the same register. Over one run of bits and then over a second it ends as over
+/// both joined, so that the register of a colour code can be held and its eight bits run once.
 ///
 /// ```
 /// use bts136::dcch::{CrcMode, checksum, checksum_from};
@@ -245,7 +245,7 @@ pub fn checksum_from(register: u16, information: &[bool]) -> u16 {
     value(flat::checksum_from(register, &byte_list(information)))
 }
 
-/// That of an answer to bits, which are never refused.
+/// The value of an answer; bits are never refused.
 fn value(answer: Crc) -> u16 {
     match answer.refusal {
         0 => answer.value,

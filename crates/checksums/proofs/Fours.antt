@@ -127,7 +127,7 @@ drop-four l k h =
     ∙ ap (λ (r : List ℕ). getD l k 0 ∷ getD l (k + 1) 0 ∷ r)
     (drop-two l (k + 2) 0 (omega arith) ∙ ap₂ (λ (i j : ℕ). getD l (k + 2) 0 ∷ getD l i 0 ∷ drop j l) a b)
 
--- ---- the loop of `run_by_fours`: the bits from k on, into the register as it is now, end where all of them end
+-- ---- the loop of `checksum_from_bits`: the bits from k on, into the register as it is now, end where all of them end
 pub record ByFours (s : List ℕ) (x₀ x k : ℕ) : Type 0 where
   pub low : k ≤ length s
   pub fits : x < 65536

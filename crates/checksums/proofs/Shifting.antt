@@ -96,7 +96,7 @@ pub after-machine : (n p x : ℕ) (u : List Bool) → registerAfter n p x u ≡ 
 unfolding registerAfter
 after-machine n p x u =
     let g : length (unpacked n p) ≡ n = unpacked-length n p in
-    ap (λ (k : ℕ). packed (remainder (unpacked n p) (added (unpacked n x) (u ++ replicate k false)))) (sym g)
+    ap (λ (k : ℕ). packed (remainder (unpacked n p) (added (unpacked k x) (u ++ replicate (length (unpacked n p)) false)))) g
     ∙ ap packed (sym (machine-remainder (unpacked n p) (unpacked n x) u (unpacked-length n x ∙ sym g)))
 
 machine-width : (n p x : ℕ) (u : List Bool) → length (machine (unpacked n p) (unpacked n x) u) ≡ n

@@ -32,6 +32,10 @@ remainder g l = divided g (length l - length g) l
 abbrev pub checkBits : List Bool → List Bool → List Bool
 checkBits g message = remainder g (message ++ replicate (length g) false)
 
+-- the same from a register: its bits are added to the first ones of the message and the zeros
+abbrev pub remainderFrom : List Bool → ℕ → List Bool → List Bool
+remainderFrom g register message = remainder g (added (unpacked (length g) register) (message ++ replicate (length g) false))
+
 -- x^16 + x^12 + x^5 + 1, hexadecimal 1021 (IS-136.1-A 4.4.3 and 5.2.6)
 abbrev pub ccitt : List Bool
 ccitt = bits (0 ∷ 0 ∷ 0 ∷ 1 ∷ 0 ∷ 0 ∷ 0 ∷ 0 ∷ 0 ∷ 0 ∷ 1 ∷ 0 ∷ 0 ∷ 0 ∷ 0 ∷ 1 ∷ [])
@@ -40,17 +44,17 @@ ccitt = bits (0 ∷ 0 ∷ 0 ∷ 1 ∷ 0 ∷ 0 ∷ 0 ∷ 0 ∷ 0 ∷ 0 ∷ 1 ∷ 
 abbrev pub speech : List Bool
 speech = bits (0 ∷ 1 ∷ 1 ∷ 0 ∷ 1 ∷ 1 ∷ 1 ∷ [])
 
--- the 16-bit register after the bits u: what is left of its own bits, added to u followed by zeros
+-- the register of the 16-bit checksum after some bits, from a given one
 unfoldable pub checksumFrom : ℕ → List Bool → ℕ
-checksumFrom register u = packed (remainder ccitt (added (unpacked 16 register) (u ++ replicate 16 false)))
+checksumFrom register information = packed (remainderFrom ccitt register information)
 
 -- the 16-bit checksum of information under a colour code, whose eight bits go first
 unfoldable pub checksumOf : List Bool → ℕ → ℕ
 checksumOf information dvcc = packed (checkBits ccitt (unpacked 8 dvcc ++ information))
 
 -- whether the 16 bits after the first n of a word are this checksum
-unfoldable pub crcValid : ℕ → List Bool → ℕ → Bool
-crcValid n w checksum = eqb (packed (take 16 (drop n w))) checksum
+unfoldable pub carries : ℕ → List Bool → ℕ → Bool
+carries n w checksum = eqb (packed (take 16 (drop n w))) checksum
 
 unfoldable pub checksum7Of : List Bool → ℕ
 checksum7Of information = packed (checkBits speech information)

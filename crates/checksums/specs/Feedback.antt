@@ -3,10 +3,9 @@ use mathlib.Core.Path.{_≡_}
 use mathlib.Core.Bool.{Bool, false, cond}
 use mathlib.Core.List.{List, [], _∷_, _++_}
 use Prim.Native.Nat.{ℕ, _*_, _^_, _<_}
-use lib.ListN.{replicate}
 use Rattle.bits.specs.Bits.{_⊕_}
 use Rattle.bits.specs.Numbers.{packed, unpacked}
-use Rattle.checksums.specs.Checksums.{added, remainder}
+use Rattle.checksums.specs.Checksums.{added, remainderFrom}
 
 -- one bit in: the register moves up, and where the bit that falls out differs from the one that comes in, the divisor is added
 unfoldable pub stepped : List Bool → List Bool → Bool → List Bool
@@ -23,7 +22,6 @@ pub record Sized (n top polynomial register : ℕ) : Type 0 where
   pub divisor : polynomial < 2 ^ n
   pub value : register < 2 ^ n
 
--- the register of n bits after the bits u: what is left of the register's bits, added to u, by the divisor
+-- the register of n bits after the bits u
 unfoldable pub registerAfter : ℕ → ℕ → ℕ → List Bool → ℕ
-registerAfter n polynomial register u =
-    packed (remainder (unpacked n polynomial) (added (unpacked n register) (u ++ replicate n false)))
+registerAfter n polynomial register u = packed (remainderFrom (unpacked n polynomial) register u)

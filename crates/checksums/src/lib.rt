@@ -10,7 +10,7 @@ ghost use Prim.Native.Nat.{ℕ, _+_, _<_, _≤_};
 ghost use lib.ListN.{length};
 ghost use Rattle.bits.specs.Bits.{allBinary, bit, bits};
 ghost use Rattle.bits.specs.Numbers.{packed, unpacked};
-ghost use Rattle.checksums.specs.Checksums.{answerForBits, answerOf, checksum7Of, checksumFrom, checksumOf, crcValid};
+ghost use Rattle.checksums.specs.Checksums.{answerForBits, answerOf, checksum7Of, checksumFrom, checksumOf, carries};
 ghost use Rattle.checksums.specs.Feedback.{Sized, registerAfter, stepped};
 
 // The weight of the highest bit of a register of 16 bits.
@@ -74,12 +74,12 @@ fn four_of(a: u8, b: u8, c: u8, d: u8) -> u16
     (a * 8 + b * 4 + c * 2 + d) as u16
 }
 
-// Bits into a register of the 16-bit checksum, by fours, and those that are left one after the other.
+// The register of the 16-bit checksum after some bits, from a given one: by fours, and those that are left one after the other.
 pub fn checksum_from_bits(register: u16, information: &[u8]) -> u16
     requires { ⌜ allBinary (now information) ≡ true ⌝ }
     ensures { λ r. ⌜ r ≡ checksumFrom register (bits (now (information .entry))) ⌝ }
 {
-    let mut x = register;
+    let mut last = register;
     let mut i = 0;
     while 4 <= information.len() - i {
         let four = four_of(
@@ -88,10 +88,10 @@ pub fn checksum_from_bits(register: u16, information: &[u8]) -> u16
             information[i + 2],
             information[i + 3],
         );
-        x = four_in(x, four);
+        last = four_in(last, four);
         i += 4;
     }
-    run(x, &information[i..], TOP, CCITT)
+    run(last, &information[i..], TOP, CCITT)
 }
 
 // The same of bytes of any content; Symbol where one is no bit.
@@ -101,12 +101,12 @@ pub fn checksum_from(register: u16, information: &[u8]) -> Checked
     if !all_binary(information) {
         return Checked::Refused(Refusal::Symbol);
     }
-    let last = checksum_from_bits(register, information);
-    Checked::Value(last)
+    let value = checksum_from_bits(register, information);
+    Checked::Value(value)
 }
 
 // The checksum of information under a colour code, whose eight bits go first.
-pub fn checksum_of_bits(information: &[u8], dvcc: u8) -> u16
+pub fn checksum_under(information: &[u8], dvcc: u8) -> u16
     requires { ⌜ allBinary (now information) ≡ true ⌝ }
     ensures { λ r. ⌜ r ≡ checksumOf (bits (now (information .entry))) dvcc ⌝ }
 {
@@ -117,11 +117,11 @@ pub fn checksum_of_bits(information: &[u8], dvcc: u8) -> u16
 }
 
 // Whether the 16 bits after so many bits of a word are this checksum.
-pub fn crc_valid(information: usize, word: &[u8], checksum: u16) -> bool
-    requires { ⌜ (information + 16 ≤ length (now word)) × (allBinary (now word) ≡ true) ⌝ }
-    ensures { λ r. ⌜ r ≡ crcValid information (bits (now (word .entry))) checksum ⌝ }
+pub fn carries(n: usize, word: &[u8], checksum: u16) -> bool
+    requires { ⌜ (n + 16 ≤ length (now word)) × (allBinary (now word) ≡ true) ⌝ }
+    ensures { λ r. ⌜ r ≡ carries n (bits (now (word .entry))) checksum ⌝ }
 {
-    let received = pack(&word[information..information + 16]);
+    let received = pack(&word[n..n + 16]);
     received == checksum as u64
 }
 

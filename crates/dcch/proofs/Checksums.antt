@@ -1,4 +1,4 @@
--- The checksum as DCCH sends it is the original's: a run of the register from 0 over the colour code and then the information. Assumes nothing.
+-- The checksum as DCCH sends it: the register from 0 over the colour code and then the information, complemented for Broadcast. Assumes nothing.
 use mathlib.Core.Path.{_≡_, sym, ap, ap₂}
 use mathlib.Core.Bool.{Bool}
 use mathlib.Core.List.{List}

@@ -9,17 +9,17 @@ use lib.Seq.{length-take-le, take-length}
 use Rattle.bits.specs.Bits.{bits, bytes, allBinary}
 use Rattle.bits.specs.declared.Refusal.the-variants.{Crc}
 use Rattle.bits.proofs.Binary.{bits-take, binary-take, bytes-bits}
-use Rattle.checksums.specs.Checksums.{crcValid}
-use Rattle.checksums.proofs.Tested.{valid-own}
+use Rattle.checksums.specs.Checksums.{carries}
+use Rattle.checksums.proofs.Tested.{carries-sum}
 use Rattle.dcch.specs.declared.crc.CrcMode.{CrcMode}
 use Rattle.dcch.specs.Crc.{blockValid, sentChecksum}
 use Rattle.dcch.specs.declared.block.Decoded.the-variants.{Accepted, Refused}
 use Rattle.dcch.specs.Blocks.{Finished}
 
 module _ (inputs information : List ℕ) (binary : allBinary inputs ≡ true) (size : length inputs ≡ length information + 21) (corrected dvcc : ℕ) (mode : CrcMode) {checksum : ℕ} {right : Bool}
-    (sum : checksum ≡ sentChecksum (bits (take (length information) inputs)) dvcc mode) (tested : right ≡ crcValid (length information) (bits inputs) checksum) where
+    (sum : checksum ≡ sentChecksum (bits (take (length information) inputs)) dvcc mode) (tested : right ≡ carries (length information) (bits inputs) checksum) where
   told : right ≡ blockValid (length information) (bits inputs) dvcc mode
-  told = valid-own (λ (u : List Bool). sentChecksum u dvcc mode) (length information) inputs sum tested
+  told = carries-sum (λ (u : List Bool). sentChecksum u dvcc mode) (length information) inputs sum tested
 
   pub failed-end : not right ≡ true → Finished (bits inputs) corrected dvcc mode information information (Refused Crc)
   failed-end t = record { taken = λ s. absurd (false≢true (sym (ap not (told ∙ s)) ∙ t)); failed = λ s. (refl, refl) }

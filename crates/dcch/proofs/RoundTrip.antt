@@ -18,7 +18,7 @@ use Rattle.coding.specs.Codes.{coded, dcch}
 use Rattle.coding.specs.Registers.{memoryHigh}
 use Rattle.coding.proofs.Coded.{coded-length}
 use Rattle.coding.proofs.Unique.{same-start}
-use Rattle.checksums.proofs.Tested.{own-valid}
+use Rattle.checksums.proofs.Tested.{carries-own}
 use Rattle.trellis.specs.Search.{First}
 use Rattle.trellis.specs.Words.{Terminated}
 use Rattle.viterbi.specs.Hard.{weight, weightFrom}
@@ -85,7 +85,7 @@ module _ (f : BlockFormat) (information : List Bool) (size : length information 
   -- the checksum in the inputs is right
   valid-own : (n : ℕ) → n ≡ length information → blockValid n inputs dvcc mode ≡ true
   unfolding inputs inputsOf
-  valid-own n e = own-valid (λ (u : List Bool). sentChecksum u dvcc mode) n information (replicate 5 false) (sent-below information dvcc mode) e
+  valid-own n e = carries-own (λ (u : List Bool). sentChecksum u dvcc mode) n information (replicate 5 false) (sent-below information dvcc mode) e
 
   passed : (n : ℕ) → n ≡ informationBits f → decodeArguments f (bytes (blockOf f information dvcc mode)) n ≡ Passed
   unfolding blockOf

@@ -21,7 +21,7 @@ use Rattle.bits.proofs.Packed.{unpacked-packed}
 use Rattle.bits.proofs.Refusing.{passed-room, passed-first, passed-exact}
 use Rattle.coding.specs.Codes.{coded, dcch}
 use Rattle.coding.specs.Registers.{memoryHigh}
-use Rattle.checksums.specs.Checksums.{crcValid}
+use Rattle.checksums.specs.Checksums.{carries}
 use Rattle.trellis.specs.Words.{Terminated}
 use Rattle.viterbi.specs.Hard.{weightFrom}
 use Rattle.soft.specs.Reliability.{allFinite, negative, signCount}
@@ -54,7 +54,7 @@ module _ (f : BlockFormat) (dvcc : ℕ) (mode : CrcMode) where
     information-length = length-take-le n inputs (omega (arith, inputs-length)) ∙ size
 
     checksum-bits : take 16 (drop n inputs) ≡ unpacked 16 (sentChecksum information dvcc mode)
-    unfolding crcValid
+    unfolding carries
     checksum-bits =
         let l : length (take 16 (drop n inputs)) ≡ 16 = length-take-le 16 (drop n inputs) (omega (arith, length-drop n inputs, inputs-length)) in
         sym (unpacked-packed (take 16 (drop n inputs))) ∙ ap₂ unpacked l (eqb→eq (packed (take 16 (drop n inputs))) (sentChecksum information dvcc mode) (subst T (sym valid) tt))

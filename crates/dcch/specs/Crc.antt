@@ -3,7 +3,7 @@ use mathlib.Core.Bool.{Bool}
 use mathlib.Core.List.{List}
 use Prim.Native.Nat.{ℕ, _-_}
 use lib.ListN.{take}
-use Rattle.checksums.specs.Checksums.{checksumOf, crcValid}
+use Rattle.checksums.specs.Checksums.{checksumOf, carries}
 use Rattle.dcch.specs.declared.crc.CrcMode.{CrcMode}
 use Rattle.dcch.specs.declared.crc.CrcMode.the-variants.{Broadcast, Addressed}
 
@@ -18,4 +18,4 @@ sentChecksum information dvcc mode = complemented mode (checksumOf information d
 
 -- whether the checksum after the first n bits of a block's inputs is theirs
 abbrev pub blockValid : ℕ → List Bool → ℕ → CrcMode → Bool
-blockValid n inputs dvcc mode = crcValid n inputs (sentChecksum (take n inputs) dvcc mode)
+blockValid n inputs dvcc mode = carries n inputs (sentChecksum (take n inputs) dvcc mode)

@@ -6,7 +6,7 @@ use bits::Wrote;
 use bits::arguments::Arguments;
 use bits::arguments::bits_and_room;
 use bits::unpack;
-use checksums::crc_valid;
+use checksums::carries;
 use coding::dcch::convolutional_encode;
 use dcch_interleaver::BlockFormat;
 use dcch_interleaver::deinterleave;
@@ -62,7 +62,7 @@ pub fn finish(
 {
     let n = information.len();
     let checksum = sent_checksum(&inputs[..n], dvcc, mode);
-    let right = crc_valid(n, inputs, checksum);
+    let right = carries(n, inputs, checksum);
     if !right {
         return Decoded::Refused(Refusal::Crc);
     }

@@ -2,7 +2,7 @@
 use bits::Refusal;
 use bits::all_binary;
 use checksums::Checked;
-use checksums::checksum_of_bits;
+use checksums::checksum_under;
 ghost use mathlib.Core.Bool.{true};
 ghost use mathlib.Core.Path.{_≡_};
 ghost use Rattle.bits.specs.Bits.{allBinary, bits};
@@ -20,7 +20,7 @@ pub fn sent_checksum(information: &[u8], dvcc: u8, mode: CrcMode) -> u16
     requires { ⌜ allBinary (now information) ≡ true ⌝ }
     ensures { λ r. ⌜ r ≡ sentChecksum (bits (now (information .entry))) dvcc mode ⌝ }
 {
-    let register = checksum_of_bits(information, dvcc);
+    let register = checksum_under(information, dvcc);
     match mode {
         CrcMode::Broadcast => 65535 - register,
         CrcMode::Addressed => register,

@@ -1,4 +1,4 @@
-// Flat functions over `coding` and `checksums`: one step of each code, and the checksums; `search` has the bare searches, `calls` the record of a call that writes bits. Each answers a number of document 01, or 0 with its result.
+// Flat functions over `coding` and `checksums`: one step of each code, the register of the 16-bit checksum and the 7-bit checksum; `search` has the bare searches, `calls` the record of a call that writes bits. Each answers a number of document 01, or 0 with its result.
 pub mod calls;
 pub mod search;
 

@@ -16,7 +16,7 @@ use Rattle.bits.proofs.Below.{below-none, below-cons, below-take}
 use Rattle.bits.proofs.Binary.{bits-bytes}
 use Rattle.bits.proofs.Packed.{unpacked-length}
 use Rattle.bits.proofs.Tested.{below}
-use Rattle.checksums.specs.Checksums.{added, checksumOf, crcValid, divided}
+use Rattle.checksums.specs.Checksums.{added, checksumOf, carries, divided}
 use Rattle.words.specs.Words.{madeOf, wordValid}
 use Rattle.sacch_interleaver.specs.Diagonal.{allTwelve}
 use Rattle.sacch_interleaver.proofs.Diagonal.{field-fits}
@@ -161,7 +161,7 @@ not-word true true t e = absurd (false≢true (sym e))
 
 -- 42 fields of them, heard from the first on
 ones-tested : NoWordHeard 1 1 ones 42
-unfolding test bitsSent madeOf checksumOf crcValid divided added packed unpacked
+unfolding test bitsSent madeOf checksumOf carries divided added packed unpacked
 ones-tested n lo hi off =
     let m : 1 + n - 22 ≡ suc (n - 22) = omega arith in
     ap (λ (i : ℕ). isWord (heardBits 1 ones i) 1) m

@@ -6,7 +6,7 @@ use Rattle.bits.specs.Numbers.{unpacked}
 use Rattle.coding.specs.Codes.{dcch, facch, acelp}
 use Rattle.coding.specs.Registers.{memoryHigh, memoryLow, Stepped}
 use Rattle.checksums.specs.Checksums.{checksumFrom}
-use Rattle.dcch.specs.Crc.{complemented}
+use Rattle.dcch.specs.Crc.{complemented, sentChecksum}
 use Rattle.dcch.specs.declared.crc.CrcMode.the-variants.{Broadcast, Addressed}
 use Rattle.acelp_cc1.specs.Frames.{informationPlace}
 use Rattle.dcch_interleaver.specs.declared.BlockFormat.the-variants.{Forward}
@@ -20,9 +20,10 @@ pub record TableM : Type 0 where
   pub dcch-step-of-zero : Stepped dcch memoryHigh 1 false 0 (1 ∷ 1 ∷ [])
   pub facch-step : Stepped facch memoryHigh 2 false 1 (1 ∷ 0 ∷ 0 ∷ 1 ∷ [])
   pub acelp-step : Stepped acelp memoryLow 0 true 1 (1 ∷ 1 ∷ [])
-  -- the checksum of no information: from 0 over the colour code 1, and over 0 complemented
+  -- the checksum of no information: the register from 0 over colour code 1, and over colour code 0 complemented; and as DCCH's calls have it
   pub checksum-addressed : complemented Addressed (checksumFrom (checksumFrom 0 (unpacked 8 1)) []) ≡ 4129
   pub checksum-broadcast : complemented Broadcast (checksumFrom (checksumFrom 0 (unpacked 8 0)) []) ≡ 65535
+  pub checksums-sent : (sentChecksum [] 1 Addressed ≡ 4129) × (sentChecksum [] 0 Broadcast ≡ 65535)
   -- ACELP positions of 0, 1, 48, 95
   pub acelp-positions : (informationPlace 0 ≡ 0) × (informationPlace 1 ≡ 102) × (informationPlace 48 ≡ 28) × (informationPlace 95 ≡ 52)
   -- Forward wire 1 and 20

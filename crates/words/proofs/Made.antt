@@ -13,7 +13,7 @@ use Rattle.bits.proofs.Binary.{bits-bytes, binary-bytes, binary-cons}
 use Rattle.bits.proofs.Packed.{packed-unpacked-below, unpacked-length}
 use Rattle.checksums.specs.Checksums.{checksumOf}
 use Rattle.checksums.proofs.Answers.{checksum-below}
-use Rattle.checksums.proofs.Tested.{own-valid}
+use Rattle.checksums.proofs.Tested.{carries-own}
 use Rattle.words.specs.Words.{informationOf, madeOf, messageIn, wordValid}
 
 -- ---- a flag as the first byte of a header
@@ -44,7 +44,7 @@ module _ (header : List Bool) (message dvcc : ℕ) where
   unfolding madeOf
   made-valid h e =
       ap (λ (l : List Bool). wordValid h (information ++ l) dvcc) (sym (append-nil checked))
-      ∙ own-valid (λ (u : List Bool). checksumOf u dvcc) (h + 48) information [] (checksum-below information dvcc) (omega (arith, information-length))
+      ∙ carries-own (λ (u : List Bool). checksumOf u dvcc) (h + 48) information [] (checksum-below information dvcc) (omega (arith, information-length))
 
   -- and the message is in it
   pub made-message : {h : ℕ} → length header ≡ h → message < 2 ^ 48 → messageIn h (madeOf header message dvcc) ≡ message

@@ -5,7 +5,7 @@ use mathlib.Core.List.{List, _++_}
 use Prim.Native.Nat.{ℕ, _+_}
 use lib.ListN.{take, drop}
 use Rattle.bits.specs.Numbers.{packed, unpacked}
-use Rattle.checksums.specs.Checksums.{checksumOf, crcValid}
+use Rattle.checksums.specs.Checksums.{checksumOf, carries}
 
 -- the header and the message, the highest bit first
 abbrev pub informationOf : List Bool → ℕ → List Bool
@@ -22,4 +22,4 @@ messageIn h w = packed (take 48 (drop h w))
 
 -- whether the checksum after a header of h bits and the message is theirs
 abbrev pub wordValid : ℕ → List Bool → ℕ → Bool
-wordValid h w dvcc = crcValid (h + 48) w (checksumOf (take (h + 48) w) dvcc)
+wordValid h w dvcc = carries (h + 48) w (checksumOf (take (h + 48) w) dvcc)

@@ -2,8 +2,8 @@
 // Ported from 136-bts, facch.rs and sacch.rs, and changed (see NOTICE).
 use bits::pack;
 use bits::unpack;
-use checksums::checksum_of_bits;
-use checksums::crc_valid;
+use checksums::carries;
+use checksums::checksum_under;
 ghost use mathlib.Core.Bool.{true};
 ghost use mathlib.Core.Path.{_≡_};
 ghost use Prim.Native.Nat.{_+_, _≤_};
@@ -21,7 +21,7 @@ pub fn complete(header: usize, message: u64, dvcc: u8, word: &mut [u8])
 {
     let end = header + 48;
     unpack(message, &mut word[header..end]);
-    let checksum = checksum_of_bits(&word[..end], dvcc);
+    let checksum = checksum_under(&word[..end], dvcc);
     unpack(checksum as u64, &mut word[end..end + 16]);
 }
 
@@ -39,6 +39,6 @@ pub fn valid(header: usize, word: &[u8], dvcc: u8) -> bool
     ensures { λ r. ⌜ r ≡ wordValid header (bits (now (word .entry))) dvcc ⌝ }
 {
     let end = header + 48;
-    let wanted = checksum_of_bits(&word[..end], dvcc);
-    crc_valid(end, word, wanted)
+    let wanted = checksum_under(&word[..end], dvcc);
+    carries(end, word, wanted)
 }

@@ -16,7 +16,7 @@ pub struct Step {
     pub output: [u8; 4],
 }
 
-/// A checksum.
+/// A checksum, or the register of one.
 #[repr(C)]
 #[derive(Clone, Copy, Debug, PartialEq, Eq)]
 pub struct Crc {

@@ -19,16 +19,16 @@ part-unpack-end c = search needs
 unpack-requires : tie.Need-unpack-requires
 unpack-requires c κs = search needs
 
-slice-reshare-prefix-checksum-of-bits : tie.Need-slice-reshare-prefix-checksum-of-bits
-slice-reshare-prefix-checksum-of-bits c = search needs
+slice-reshare-prefix-checksum-under : tie.Need-slice-reshare-prefix-checksum-under
+slice-reshare-prefix-checksum-under c = search needs
 
-slice-aggregate-checksum-of-bits : tie.Need-slice-aggregate-checksum-of-bits
-slice-aggregate-checksum-of-bits c =
+slice-aggregate-checksum-under : tie.Need-slice-aggregate-checksum-under
+slice-aggregate-checksum-under c =
     let start = c .before .before .before .before .before .before in
     front-length (start .args .word .now) (start .args .header) (start .args .message) (start .pre .0) (start .pre .1) _ (c .before .before .before .unpack .ensures)
 
-checksum-of-bits-requires : tie.Need-checksum-of-bits-requires
-checksum-of-bits-requires c κs =
+checksum-under-requires : tie.Need-checksum-under-requires
+checksum-under-requires c κs =
     let start = c .before .before .before .before .before .before in
     front-binary (start .args .word .now) (start .args .header) (start .args .message) (start .pre .0) (start .pre .1) _ (c .before .before .before .unpack .ensures)
 
@@ -56,9 +56,9 @@ same-length c = search needs
 returns : tie.Need-returns
 returns c =
     let start = c .before .before .before .before .before .before .before .before .before .before .before in
-    let at-checksum-of-bits = c .before .before .before .before in
-    let at-unpack = at-checksum-of-bits .before .before .before .before in
-    completed (start .args .word .now) (start .args .header) (start .args .message) (start .pre .0) (start .pre .1) _ (at-unpack .unpack .ensures) _ (at-checksum-of-bits .checksum-of-bits .ensures) (c .before .before .unpack2 .ensures)
+    let at-checksum-under = c .before .before .before .before in
+    let at-unpack = at-checksum-under .before .before .before .before in
+    completed (start .args .word .now) (start .args .header) (start .args .message) (start .pre .0) (start .pre .1) _ (at-unpack .unpack .ensures) _ (at-checksum-under .checksum-under .ensures) (c .before .before .unpack2 .ensures)
 
 pub complete-spec : {M : Type 1} → statement M
 complete-spec =
@@ -69,9 +69,9 @@ complete-spec =
     part-unpack-start
     part-unpack-end
     unpack-requires
-    slice-reshare-prefix-checksum-of-bits
-    slice-aggregate-checksum-of-bits
-    checksum-of-bits-requires
+    slice-reshare-prefix-checksum-under
+    slice-aggregate-checksum-under
+    checksum-under-requires
     cast-unpack
     add-unpack
     sub-unpack-2

@@ -5,7 +5,7 @@ use native.Mathlib.Omega.{arith}
 use Rattle.bits.proofs.Binary.{binary-take}
 use Rattle.bits.proofs.LentPart.{part-length}
 use Rattle.checksums.specs.Checksums.{checksumOf}
-use Rattle.checksums.proofs.Tested.{valid-own}
+use Rattle.checksums.proofs.Tested.{carries-sum}
 use borrow.Author.Needs.{needs}
 use Rattle.words.proofs.valid.Statement.{statement}
 use Rattle.words.proofs.valid.Tie as tie
@@ -13,26 +13,26 @@ use Rattle.words.proofs.valid.Tie as tie
 add-end : tie.Need-add-end
 add-end c = search needs
 
-slice-aggregate-checksum-of-bits : tie.Need-slice-aggregate-checksum-of-bits
-slice-aggregate-checksum-of-bits c = part-length _ (c .before .before .args .word .now) (omega arith)
+slice-aggregate-checksum-under : tie.Need-slice-aggregate-checksum-under
+slice-aggregate-checksum-under c = part-length _ (c .before .before .args .word .now) (omega arith)
 
-checksum-of-bits-requires : tie.Need-checksum-of-bits-requires
-checksum-of-bits-requires c κs = search (needs, binary-take)
+checksum-under-requires : tie.Need-checksum-under-requires
+checksum-under-requires c κs = search (needs, binary-take)
 
-crc-valid-requires : tie.Need-crc-valid-requires
-crc-valid-requires c κs = search needs
+carries-requires : tie.Need-carries-requires
+carries-requires c κs = search needs
 
 returns : tie.Need-returns
 returns c =
     let entry = c .before .before .before .before .args in
-    valid-own (λ (u : List Bool). checksumOf u (entry .dvcc)) _ (entry .word .now) (c .before .checksum-of-bits .ensures) (c .crc-valid .ensures)
+    carries-sum (λ (u : List Bool). checksumOf u (entry .dvcc)) _ (entry .word .now) (c .before .checksum-under .ensures) (c .carries .ensures)
 
 pub valid-spec : {M : Type 1} → statement M
 valid-spec =
     tie.close
     (tie.spec
     add-end
-    slice-aggregate-checksum-of-bits
-    checksum-of-bits-requires
-    crc-valid-requires
+    slice-aggregate-checksum-under
+    checksum-under-requires
+    carries-requires
     returns)

@@ -15,15 +15,15 @@ slice-aggregate-sent-checksum c = part-length _ _ (omega arith)
 sent-checksum-requires : tie.Need-sent-checksum-requires
 sent-checksum-requires c κs = search (needs, binary-take)
 
-crc-valid-requires : tie.Need-crc-valid-requires
-crc-valid-requires c κs = search needs
+carries-requires : tie.Need-carries-requires
+carries-requires c κs = search needs
 
 returns : tie.Need-returns
 returns c =
     let tested = c .before in
     let summed = tested .before in
     let entry = summed .before .before .before .before in
-    failed-end (entry .args .inputs .now) (entry .args .information .now) (entry .pre .0) (entry .pre .1) _ _ _ (summed .sent-checksum .ensures) (tested .crc-valid .ensures) (c .if1 .taken)
+    failed-end (entry .args .inputs .now) (entry .args .information .now) (entry .pre .0) (entry .pre .1) _ _ _ (summed .sent-checksum .ensures) (tested .carries .ensures) (c .if1 .taken)
 
 slice-aggregate-copy : tie.Need-slice-aggregate-copy
 slice-aggregate-copy c = part-length _ _ (omega arith)
@@ -43,7 +43,7 @@ returns-2 c =
     let tested = left .before in
     let summed = tested .before in
     let entry = summed .before .before .before .before in
-    taken-end (entry .args .inputs .now) (entry .args .information .now) (entry .pre .0) (entry .pre .1) _ _ _ (summed .sent-checksum .ensures) (tested .crc-valid .ensures) (left .if1 .left) (copied .copy .ensures .1)
+    taken-end (entry .args .inputs .now) (entry .args .information .now) (entry .pre .0) (entry .pre .1) _ _ _ (summed .sent-checksum .ensures) (tested .carries .ensures) (left .if1 .left) (copied .copy .ensures .1)
 
 pub finish-spec : {M : Type 1} → statement M
-finish-spec = tie.close (tie.spec slice-aggregate-sent-checksum sent-checksum-requires crc-valid-requires returns slice-aggregate-copy copy-requires same-length returns-2)
+finish-spec = tie.close (tie.spec slice-aggregate-sent-checksum sent-checksum-requires carries-requires returns slice-aggregate-copy copy-requires same-length returns-2)

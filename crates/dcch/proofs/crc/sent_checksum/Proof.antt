@@ -4,8 +4,8 @@ use borrow.Author.Needs.{needs}
 use Rattle.dcch.proofs.crc.sent_checksum.Statement.{statement}
 use Rattle.dcch.proofs.crc.sent_checksum.Tie as tie
 
-checksum-of-bits-requires : tie.Need-checksum-of-bits-requires
-checksum-of-bits-requires c κs = search needs
+checksum-under-requires : tie.Need-checksum-under-requires
+checksum-under-requires c κs = search needs
 
 enum-told : tie.Need-enum-told
 enum-told c = search needs
@@ -17,12 +17,12 @@ enum-told-2 : tie.Need-enum-told-2
 enum-told-2 c = search needs
 
 returns : tie.Need-returns
-returns c = sent-as _ _ (c .enum-told .given .1) (c .before .before .checksum-of-bits .ensures)
+returns c = sent-as _ _ (c .enum-told .given .1) (c .before .before .checksum-under .ensures)
 
 returns-2 : tie.Need-returns-2
-returns-2 c = sent-as _ _ (c .enum-told2 .given .1) (c .before .before .checksum-of-bits .ensures)
+returns-2 c = sent-as _ _ (c .enum-told2 .given .1) (c .before .before .checksum-under .ensures)
 
 pub sent-checksum-spec : {M : Type 1} → statement M
 sent-checksum-spec =
     tie.close
-    (tie.spec checksum-of-bits-requires enum-told sub-result enum-told-2 returns returns-2)
+    (tie.spec checksum-under-requires enum-told sub-result enum-told-2 returns returns-2)

@@ -1,10 +1,10 @@
--- `checksums::crc_valid` meets its contract: the number in the word against the one given. Assumes nothing.
+-- `checksums::carries` meets its contract: the number in the word against the one given. Assumes nothing.
 use native.Mathlib.Omega.{arith}
 use Rattle.bits.proofs.Packed.{asks-pack}
-use Rattle.checksums.proofs.Tested.{valid-is}
+use Rattle.checksums.proofs.Tested.{carries-is}
 use borrow.Author.Needs.{needs}
-use Rattle.checksums.proofs.crc_valid.Statement.{statement}
-use Rattle.checksums.proofs.crc_valid.Tie as tie
+use Rattle.checksums.proofs.carries.Statement.{statement}
+use Rattle.checksums.proofs.carries.Tie as tie
 
 add-pack : tie.Need-add-pack
 add-pack c = search needs
@@ -19,15 +19,15 @@ part-pack-end : tie.Need-part-pack-end
 part-pack-end c = search needs
 
 pack-requires : tie.Need-pack-requires
-pack-requires c κs = asks-pack 16 (c .before .before .args .information) (c .before .before .args .word .now) (omega arith) (c .before .before .pre .1)
+pack-requires c κs = asks-pack 16 (c .before .before .args .n) (c .before .before .args .word .now) (omega arith) (c .before .before .pre .1)
 
 returns : tie.Need-returns
 returns c =
     let start = c .before .before .before .args in
-    valid-is (start .word .now) (start .information) _ (c .pack .ensures)
+    carries-is (start .word .now) (start .n) _ (c .pack .ensures)
 
-pub crc-valid-spec : {M : Type 1} → statement M
-crc-valid-spec =
+pub carries-spec : {M : Type 1} → statement M
+carries-spec =
     tie.close
     (tie.spec
     add-pack
