@@ -1,11 +1,13 @@
--- What a line asks for (document 01, 'The line program `frames`'). A line is its bytes up to LF, without it. A character is a byte, a space the byte 32.
+-- What a line asks for (document 01, 'The line program `frames`'), by its kind (text/specs/LineKinds.antt) and its form.
 use mathlib.Core.Path.{_≡_}
-use mathlib.Core.Bool.{Bool, true, false, cond}
+use mathlib.Core.Bool.{cond}
 use mathlib.Core.List.{List, [], _∷_, _++_}
 use Prim.Native.Nat.{ℕ, _+_, _*_, _<_}
-use lib.Dec.{eqb, ltb}
 use lib.ListN.{length, replicate}
 use Rattle.text.specs.Lines.{digitAt, twoAt, shaped}
+use Rattle.text.specs.LineKinds.{kindOf}
+use Rattle.text.specs.declared.kind.LineKind.{LineKind}
+use Rattle.text.specs.declared.kind.LineKind.the-variants as kind
 use Rattle.lines.specs.declared.command.Command.{Command}
 use Rattle.lines.specs.declared.command.Command.the-variants.{Blank, Sacch, Discontinuity, Facch, Unknown}
 
@@ -24,20 +26,22 @@ facchShape = 70 ∷ 32 ∷ 35 ∷ 35 ∷ 32 ∷ (replicate 65 35 ++ 32 ∷ repli
 abbrev pub threeAt : List ℕ → ℕ → ℕ
 threeAt l k = twoAt l k * 16 + digitAt l (k + 2)
 
--- a line of no characters or only spaces
-unfoldable pub blank : List ℕ → Bool
-blank [] = true
-blank (b ∷ bs) = cond (eqb b 32) (blank bs) false
-
--- A line above 136 characters is unknown, whatever they are; a blank one is skipped; then the three forms; all others are unknown.
-unfoldable pub parsed : List ℕ → Command
-parsed l =
-    cond (ltb 136 (length l)) Unknown
-    (cond (blank l) Blank
-    (cond (shaped sacchShape l) (Sacch (twoAt l 2) (threeAt l 5))
+-- what a line of one of the forms asks for; one of any other is unknown
+unfoldable pub byForm : List ℕ → Command
+byForm l =
+    cond (shaped sacchShape l) (Sacch (twoAt l 2) (threeAt l 5))
     (cond (shaped discontinuityShape l) Discontinuity
     (cond (shaped facchShape l) (Facch (twoAt l 2))
-    Unknown))))
+    Unknown))
+
+-- a line that is too long is unknown, whatever it holds; a blank one is skipped; of any other the form decides
+unfoldable pub byKind : LineKind → List ℕ → Command
+byKind kind.TooLong l = Unknown
+byKind kind.Blank l = Blank
+byKind kind.Filled l = byForm l
+
+unfoldable pub parsed : List ℕ → Command
+parsed l = byKind (kindOf l) l
 
 -- ---- what the forms say of the places that are read as numbers
 pub record SacchLine (l : List ℕ) : Type 0 where

@@ -2,11 +2,13 @@
 use bits::wide;
 use text::digit;
 use text::has_shape;
+use text::kind::LineKind;
+use text::kind::line_kind;
 use text::two;
 ghost use mathlib.Core.Path.{_≡_};
 ghost use Prim.Native.Nat.{_+_, _*_, _≤_};
 ghost use Rattle.text.specs.Lines.{digitOf, shaped, twoAt};
-ghost use Rattle.lines.specs.Commands.{FacchLine, SacchLine, blank, discontinuityShape, facchShape, parsed, sacchShape, threeAt};
+ghost use Rattle.lines.specs.Commands.{FacchLine, SacchLine, byForm, discontinuityShape, facchShape, parsed, sacchShape, threeAt};
 
 // What a line asks for.
 pub enum Command {
@@ -19,18 +21,6 @@ pub enum Command {
     // `F dd b m`: a FACCH word. Its bits are read by `crate::mask::observed_bits`.
     Facch { dvcc: u8 },
     Unknown,
-}
-
-// Whether a line has no characters, or only spaces.
-fn is_blank(line: &[u8]) -> bool
-    ensures { λ r. ⌜ r ≡ blank (now (line .entry)) ⌝ }
-{
-    for i in 0..line.len() {
-        if line[i] != b' ' {
-            return false;
-        }
-    }
-    true
 }
 
 fn is_sacch(line: &[u8]) -> bool
@@ -81,16 +71,10 @@ fn facch(line: &[u8]) -> Command
     Command::Facch { dvcc: dvcc as u8 }
 }
 
-// What a line asks for. The length goes first: 137 spaces are not skipped.
-pub fn parse(line: &[u8]) -> Command
-    ensures { λ r. ⌜ r ≡ parsed (now (line .entry)) ⌝ }
+// What a filled line asks for, by its form.
+fn by_form(line: &[u8]) -> Command
+    ensures { λ r. ⌜ r ≡ byForm (now (line .entry)) ⌝ }
 {
-    if 136 < line.len() {
-        return Command::Unknown;
-    }
-    if is_blank(line) {
-        return Command::Blank;
-    }
     if is_sacch(line) {
         return sacch(line);
     }
@@ -101,4 +85,16 @@ pub fn parse(line: &[u8]) -> Command
         return facch(line);
     }
     Command::Unknown
+}
+
+// What a line asks for.
+pub fn parse(line: &[u8]) -> Command
+    ensures { λ r. ⌜ r ≡ parsed (now (line .entry)) ⌝ }
+{
+    let kind = line_kind(line);
+    match kind {
+        LineKind::TooLong => Command::Unknown,
+        LineKind::Blank => Command::Blank,
+        LineKind::Filled => by_form(line),
+    }
 }

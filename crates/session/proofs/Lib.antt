@@ -1,5 +1,7 @@
 -- The laws of replies and totals, and that pieces of an input, however it is cut, come to what is written for the whole.
 pub mod Replying
+pub mod BlankLines
+pub mod LastLf
 pub mod Closing
 pub mod Cut
 pub mod Whole

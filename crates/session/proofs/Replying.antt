@@ -2,11 +2,9 @@
 use mathlib.Core.Path.{_≡_, refl, sym, ap, _∙_}
 use mathlib.Core.Bool.{Bool, true, false}
 use mathlib.Core.List.{List, [], _∷_}
-use Prim.Native.Nat.{ℕ, _<_}
-use native.Mathlib.Decide.{decLt}
-use native.Mathlib.Omega.{arith}
-use lib.ListN.{length, take, drop}
-use lib.Seq.{take-all}
+use Prim.Native.Nat.{ℕ, _<_, _≤_}
+use lib.ListN.{length, take, drop, replicate}
+use Rattle.bits.specs.declared.Refusal.the-variants.{Line}
 use Rattle.bits.specs.declared.arguments.Arguments.{Arguments}
 use Rattle.bits.specs.declared.arguments.Arguments.the-variants.{Passed}
 use Rattle.bits.specs.Bits.{allBelow}
@@ -20,8 +18,9 @@ use Rattle.lines.specs.declared.command.Command.{Command}
 use Rattle.lines.specs.declared.command.Command.the-variants as command
 use Rattle.lines.specs.declared.reply.Reply.{Reply}
 use Rattle.lines.specs.declared.reply.Reply.the-variants as reply
-use Rattle.lines.proofs.Forms.{parsed-long, parsed-cut}
+use Rattle.lines.proofs.Forms.{parsed-long, parsed-spaces}
 use Rattle.lines.proofs.Masking.{length-observed}
+use Rattle.text.proofs.LineKinds.{cut-alike}
 use Rattle.sacch_receiver.specs.Receiver.{Moved, moved, outcomeAnswer, freshReceiver, pushOf}
 use Rattle.sacch_receiver.specs.declared.Pushed.{Pushed}
 use Rattle.sacch_receiver.specs.declared.SacchReceiver.{SacchReceiver}
@@ -69,10 +68,15 @@ pub facch-replied : (l : List ℕ) (dvcc : ℕ) {bits : List ℕ} (d : Decoded) 
 facch-replied l dvcc d long e p f =
     f ∙ ap facchReply (p ∙ ap (λ (bits : List ℕ). decoding (erasedArguments bits) bits dvcc) e ∙ ap (λ (x : Arguments). decoding x (observedBits l) dvcc) (observed-passed l long))
 
--- ---- no reply depends on more than 137 characters
+-- ---- long and blank lines
+pub long-replied : (r : SacchReceiver) (l : List ℕ) → 136 < length l → replyTo r l ≡ record { receiver = r; dvcc = 0; reply = reply.Refused Line }
+unfolding commandReplied
+long-replied r l h = sym (replied-at r l (parsed-long l h) refl)
+
+pub spaces-replied : (r : SacchReceiver) (n : ℕ) → n ≤ 136 → replyTo r (replicate n 32) ≡ record { receiver = r; dvcc = 0; reply = reply.Nothing }
+unfolding commandReplied
+spaces-replied r n h = sym (replied-at r (replicate n 32) (parsed-spaces n h) refl)
+
+-- no reply depends on more than 137 characters
 pub replied-cut : (r : SacchReceiver) (l : List ℕ) → replyTo r (take 137 l) ≡ replyTo r l
-unfolding replyTo commandReplied
-replied-cut r l = elim (decLt 136 (length l)) [ yes h ↦ long h | no h ↦ ap (replyTo r) (take-all 137 l (omega arith)) ]
-  where
-    long : 136 < length l → commandReplied r (take 137 l) (parsed (take 137 l)) ≡ commandReplied r l (parsed l)
-    long h = ap (commandReplied r (take 137 l)) (parsed-cut l ∙ sym (parsed-long l h)) ∙ ap (commandReplied r l) (parsed-long l h)
+replied-cut r = cut-alike (replyTo r) (long-replied r)

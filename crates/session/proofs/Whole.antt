@@ -73,7 +73,7 @@ closed-part : (k : ℕ) (s : State) (p : ℕ) (part : List ℕ) → closed (scan
 unfolding closed
 closed-part k s p part = rw (eqb·suc-zero (length (take 136 part)))
 
-lines-part : (p : ℕ) (part : List ℕ) → linesFrom (p ∷ part) [] ≡ (p ∷ part) ∷ []
+pub lines-part : (p : ℕ) (part : List ℕ) → linesFrom (p ∷ part) [] ≡ (p ∷ part) ∷ []
 unfolding linesFrom
 lines-part p part = rw (eqb·suc-zero (length part))
 

@@ -1,4 +1,5 @@
--- The laws of characters and shapes, and of numbers as text.
+-- The laws of characters and shapes, of long and blank lines, and of numbers as text.
 pub mod Reading
+pub mod LineKinds
 pub mod Stored
 pub mod Digits

@@ -10,6 +10,7 @@ use borrow.Author.Tests.{lt-ltb, le-ltb, ltb-true, eq-eqb, ne-eqb}
 use lib.ListN.{length, drop, getD, length-map, drop-of-length-le}
 use lib.Seq.{drop-cons, ext-getD}
 use lib.Dec.{eqb, ltb}
+use Rattle.bits.proofs.Below.{cond-true}
 use Rattle.text.specs.Lines.{digitOf, shaped, stands}
 
 -- ---- a digit, by where the byte lies
@@ -48,28 +49,20 @@ unfolding stands
 digit-stands b e = ltb-true (digitOf b) 16 e
 
 -- ---- a shape and a text
-first : (t u : Bool) → cond t u false ≡ true → t ≡ true
-first true u e = refl
-first false u e = absurd (false≢true e)
-
-second : (t u : Bool) → cond t u false ≡ true → u ≡ true
-second true u e = e
-second false u e = absurd (false≢true e)
-
 pub shaped-length : (ps bs : List ℕ) → shaped ps bs ≡ true → length ps ≡ length bs
 unfolding shaped
 shaped-length [] [] e = refl
 shaped-length [] (b ∷ bs) e = absurd (false≢true e)
 shaped-length (p ∷ ps) [] e = absurd (false≢true e)
-shaped-length (p ∷ ps) (b ∷ bs) e = ap suc (shaped-length ps bs (second (stands p b) (shaped ps bs) e))
+shaped-length (p ∷ ps) (b ∷ bs) e = ap suc (shaped-length ps bs (cond-true (stands p b) (shaped ps bs) e .1))
 
 -- each place of a text fits its shape
 pub shaped-at : (ps bs : List ℕ) (i : ℕ) → i < length ps → shaped ps bs ≡ true → stands (getD ps i 0) (getD bs i 0) ≡ true
 unfolding shaped
 shaped-at [] bs i h e = absurd (not-suc-le-zero h)
 shaped-at (p ∷ ps) [] i h e = absurd (false≢true e)
-shaped-at (p ∷ ps) (b ∷ bs) zero h e = first (stands p b) (shaped ps bs) e
-shaped-at (p ∷ ps) (b ∷ bs) (suc i) h e = shaped-at ps bs i (le-of-suc-le-suc h) (second (stands p b) (shaped ps bs) e)
+shaped-at (p ∷ ps) (b ∷ bs) zero h e = cond-true (stands p b) (shaped ps bs) e .0
+shaped-at (p ∷ ps) (b ∷ bs) (suc i) h e = shaped-at ps bs i (le-of-suc-le-suc h) (cond-true (stands p b) (shaped ps bs) e .1)
 
 pub not-shaped : (ps bs : List ℕ) → (length ps ≡ length bs → ⊥) → false ≡ shaped ps bs
 not-shaped ps bs h = by (shaped ps bs) refl

@@ -1,4 +1,5 @@
 // Characters of a line: digits, shapes, and where a line ends.
+pub mod kind;
 pub mod numerals;
 
 use bits::wide;

@@ -1,12 +1,12 @@
--- `lines::command::is_blank` meets its contract: the characters passed are spaces. Assumes nothing.
+-- `text::kind::is_blank` meets its contract: the characters passed are spaces. Assumes nothing.
 use mathlib.Core.Path.{_≡_, refl}
 use Prim.Native.Nat.{_-_}
 use native.Mathlib.Omega.{arith}
 use lib.ListN.{length}
-use Rattle.lines.proofs.Forms.{Spaces, spaces-stop, spaces-more, spaces-done}
+use Rattle.text.proofs.LineKinds.{Spaces, spaces-stop, spaces-more, spaces-done}
 use borrow.Author.Needs.{needs}
-use Rattle.lines.proofs.command.is_blank.Statement.{statement}
-use Rattle.lines.proofs.command.is_blank.Tie as tie
+use Rattle.text.proofs.kind.is_blank.Statement.{statement}
+use Rattle.text.proofs.kind.is_blank.Tie as tie
 
 abbrev Inv-loop : tie.InvT-loop
 Inv-loop line i₀ i-end i = (i-end ≡ length line) × Spaces line i

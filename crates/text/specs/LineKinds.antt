@@ -1,0 +1,18 @@
+-- What a line is before its form is read (document 01, 'The line program `frames`', and document 02, note 12).
+-- A line is its bytes up to LF, without it. A character is a byte, a space the byte 32.
+use mathlib.Core.Bool.{Bool, true, false, cond}
+use mathlib.Core.List.{List, [], _∷_}
+use Prim.Native.Nat.{ℕ}
+use lib.Dec.{eqb, ltb}
+use lib.ListN.{length}
+use Rattle.text.specs.declared.kind.LineKind.{LineKind}
+use Rattle.text.specs.declared.kind.LineKind.the-variants.{TooLong, Blank, Filled}
+
+-- a line of no characters or only spaces
+unfoldable pub blank : List ℕ → Bool
+blank [] = true
+blank (b ∷ bs) = cond (eqb b 32) (blank bs) false
+
+-- Length goes first: a line above 136 characters is too long, whatever they are. Of the others one of no characters or only spaces is blank.
+unfoldable pub kindOf : List ℕ → LineKind
+kindOf l = cond (ltb 136 (length l)) TooLong (cond (blank l) Blank Filled)
