@@ -78,6 +78,30 @@ fn answers_traffic() {
     tally.end();
 }
 
+/// Document 02, note 12: up to 136 spaces are skipped, more are a line that is too long, and an LF
+/// at the end changes nothing. What is expected is the note's, not the other program's.
+#[test]
+fn refuses_long_blank_lines() {
+    let mut tally = Tally::new("frames, lines of spaces");
+    let mut inputs = 0;
+    for count in (0..=300).chain([1000, 16_383, 16_384, 100_000]) {
+        for end in ["", "\n"] {
+            let input = " ".repeat(count) + end;
+            for piece in [100, 1 << 20] {
+                let refused = usize::from(count > 136);
+                let printed = printed(input.as_bytes().chunks(piece));
+                prints(&printed, "R 7\n", refused, "T 0 0\n");
+                inputs += 1;
+            }
+        }
+    }
+    tally.part(
+        "0 to 300 spaces, 1,000 and more, with and without LF",
+        inputs,
+    );
+    tally.end();
+}
+
 /// A long input that is not kept, and what is written of it.
 fn repeated(line: &[u8], times: usize, last: &[u8]) -> Vec<u8> {
     let block = line.repeat(1000);

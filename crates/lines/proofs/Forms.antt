@@ -6,7 +6,7 @@ use Prim.Native.Nat.{ℕ, _<_, _≤_}
 use native.Mathlib.Omega.{arith}
 use lib.ListN.{length, getD, replicate}
 use Rattle.text.specs.Lines.{shaped, twoAt}
-use Rattle.text.specs.LineKinds.{kindOf}
+use Rattle.text.specs.LineKinds.{ShortBlank, kindOf}
 use Rattle.text.specs.declared.kind.LineKind.{LineKind}
 use Rattle.text.specs.declared.kind.LineKind.the-variants as kind
 use Rattle.text.proofs.LineKinds.{blank-only, kind-long, kind-spaces, never}
@@ -74,9 +74,9 @@ unfolding byKind
 parsed-spaces n h = parsed-at (replicate n 32) (kind-spaces n h) refl
 
 -- ---- an `F` line has 136 characters
-form-shape : (t3 t4 t5 : Bool) (a b e d : ℕ) → cond t3 (Sacch a b) (cond t4 Discontinuity (cond t5 (Facch e) Unknown)) ≡ Facch d → t5 ≡ true
-form-shape true t4 t5 a b e d h = never cc
-form-shape false true t5 a b e d h = never cc
+form-shape : (t u v : Bool) (a b e d : ℕ) → cond t (Sacch a b) (cond u Discontinuity (cond v (Facch e) Unknown)) ≡ Facch d → v ≡ true
+form-shape true u v a b e d h = never cc
+form-shape false true v a b e d h = never cc
 form-shape false false true a b e d h = refl
 form-shape false false false a b e d h = never cc
 
@@ -97,17 +97,17 @@ facch-long l d h = by (kindOf l) h
     by kind.Filled e = form-long l d e
 
 -- ---- only a blank line is skipped
-form-not-blank : (t3 t4 t5 : Bool) (a b e : ℕ) → cond t3 (Sacch a b) (cond t4 Discontinuity (cond t5 (Facch e) Unknown)) ≡ Blank → ⊥
-form-not-blank true t4 t5 a b e h = never cc
-form-not-blank false true t5 a b e h = never cc
+form-not-blank : (t u v : Bool) (a b e : ℕ) → cond t (Sacch a b) (cond u Discontinuity (cond v (Facch e) Unknown)) ≡ Blank → ⊥
+form-not-blank true u v a b e h = never cc
+form-not-blank false true v a b e h = never cc
 form-not-blank false false true a b e h = never cc
 form-not-blank false false false a b e h = never cc
 
-pub parsed-blank : (l : List ℕ) → parsed l ≡ Blank → (length l ≤ 136) × (l ≡ replicate (length l) 32)
+pub parsed-blank : (l : List ℕ) → parsed l ≡ Blank → ShortBlank l
 unfolding parsed byKind byForm
 parsed-blank l h = by (kindOf l) refl h
   where
-    by : (k : LineKind) → kindOf l ≡ k → byKind k l ≡ Blank → (length l ≤ 136) × (l ≡ replicate (length l) 32)
+    by : (k : LineKind) → kindOf l ≡ k → byKind k l ≡ Blank → ShortBlank l
     by kind.TooLong e f = never cc
     by kind.Blank e f = blank-only l e
     by kind.Filled e f = absurd (form-not-blank (shaped sacchShape l) (shaped discontinuityShape l) (shaped facchShape l) (twoAt l 2) (threeAt l 5) (twoAt l 2) f)

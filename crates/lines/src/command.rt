@@ -12,7 +12,7 @@ ghost use Rattle.lines.specs.Commands.{FacchLine, SacchLine, byForm, dis
 
 // What a line asks for.
 pub enum Command {
-    // Nothing: no characters, or only spaces.
+    // Nothing: the line is skipped.
     Blank,
     // `S dd fff`: a field for the SACCH receiver.
     Sacch { dvcc: u8, field: u16 },
@@ -20,6 +20,7 @@ pub enum Command {
     Discontinuity,
     // `F dd b m`: a FACCH word. Its bits are read by `crate::mask::observed_bits`.
     Facch { dvcc: u8 },
+    // Too long, or of none of these forms.
     Unknown,
 }
 

@@ -1,28 +1,23 @@
--- Long and blank lines, and the LF at the end of an input. Assumes nothing.
-use mathlib.Core.Path.{_≡_, refl, sym, ap, ap₂, _∙_}
-use mathlib.Core.Bool.{Bool, true, false, cond}
-use mathlib.Core.List.{List, [], _∷_, _++_}
-use Prim.Native.Nat.{ℕ, zero, suc, _+_, _<_, _≤_}
+-- Long and blank lines: what they write, what they leave, and that every other line is answered. Assumes nothing.
+use mathlib.Core.Path.{_≡_, refl, ap, ap₂}
+use mathlib.Core.List.{List, [], _∷_}
+use Prim.Native.Nat.{ℕ, _<_, _≤_}
 use native.Mathlib.Nat.{add-zero}
-use native.Mathlib.Omega.{arith}
-use lib.Dec.{eqb, eqb·suc-zero}
-use lib.ListN.{length, getD, set, take, replicate}
-use lib.Seq.{set-getD, take-nil}
+use lib.ListN.{length, getD, replicate}
+use lib.Seq.{set-getD}
 use Rattle.bits.specs.Refusals.{Answer, accepted, refused}
 use Rattle.bits.specs.Pushes.{PushAnswer}
 use Rattle.bits.specs.Pushes as push
-use Rattle.bits.specs.declared.Refusal.{Refusal}
-use Rattle.bits.specs.declared.Refusal.the-variants.{Line}
 use Rattle.facch.specs.Decoding.{Content, decodeOf}
-use Rattle.lines.specs.Commands.{parsed}
-use Rattle.lines.specs.Masked.{observedBits}
+use Rattle.text.specs.LineKinds.{ShortBlank}
 use Rattle.text.specs.Numerals.{digits, glyph, hexadecimal}
 use Rattle.text.proofs.LineKinds.{never}
+use Rattle.lines.specs.Commands.{parsed}
+use Rattle.lines.specs.Masked.{observedBits}
 use Rattle.lines.specs.Printing.{refusalText, replyText, wordText}
 use Rattle.lines.specs.declared.command.Command.{Command}
 use Rattle.lines.specs.declared.command.Command.the-variants as command
 use Rattle.lines.specs.declared.reply.Reply.{Reply}
-use Rattle.lines.specs.declared.reply.Reply.the-variants as reply
 use Rattle.lines.proofs.Forms.{parsed-blank}
 use Rattle.sacch_decoder.specs.declared.SacchWord.{SacchWord}
 use Rattle.sacch_receiver.specs.Receiver.{pushOf}
@@ -30,9 +25,9 @@ use Rattle.sacch_receiver.specs.declared.SacchReceiver.{SacchReceiver}
 use Rattle.session.specs.declared.replies.Replied.{Replied}
 use Rattle.session.specs.declared.totals.Tally.{Tally}
 use Rattle.session.specs.BlankLines.{LengthFirst, OnlyWrites, lineRefused}
-use Rattle.session.specs.Output.{State, after, fresh, linesFrom, linesOf, next, output, said, spoken}
+use Rattle.session.specs.Output.{State, next, said}
 use Rattle.session.specs.Replies.{commandReplied, facchReply, replyTo, sacchReplied, sacchReply}
-use Rattle.session.specs.Totals.{addedBy, closing, counted, nothingAdded, summed}
+use Rattle.session.specs.Totals.{addedBy, counted, nothingAdded, summed}
 use Rattle.session.proofs.Replying.{long-replied, spaces-replied}
 
 -- ---- a line that adds nothing and leaves the receiver
@@ -88,7 +83,7 @@ command-written r l command.Discontinuity e = written e
 command-written r l (command.Facch dvcc) e = facch-written (decodeOf (observedBits l) dvcc) e
 command-written r l command.Unknown e = written e
 
-skipped-line : (s : State) (l : List ℕ) → said s l ≡ [] → (length l ≤ 136) × (l ≡ replicate (length l) 32)
+skipped-line : (s : State) (l : List ℕ) → said s l ≡ [] → ShortBlank l
 unfolding said replyTo
 skipped-line s l e = parsed-blank l (command-written (s .receiver) l (parsed l) e)
 

@@ -1,5 +1,5 @@
 -- An LF after an input changes nothing: it ends the last line, or adds an empty one, which is skipped. Assumes nothing.
-use mathlib.Core.Path.{_≡_, refl, sym, ap, ap₂, subst, _∙_}
+use mathlib.Core.Path.{_≡_, refl, ap, ap₂}
 use mathlib.Core.Bool.{Bool, true, false, cond}
 use mathlib.Core.List.{List, [], _∷_, _++_}
 use Prim.Native.Nat.{ℕ, zero, suc}
@@ -7,7 +7,6 @@ use native.Mathlib.Omega.{arith}
 use lib.Dec.{eqb}
 use lib.ListN.{take}
 use lib.Seq.{take-nil}
-use Rattle.session.specs.BlankLines.{OnlyWrites}
 use Rattle.session.specs.Output.{State, after, fresh, linesFrom, linesOf, next, output, said, spoken}
 use Rattle.session.specs.Totals.{closing}
 use Rattle.session.proofs.BlankLines.{length-first}

@@ -3,6 +3,7 @@ use mathlib.Core.Path.{_≡_}
 use mathlib.Core.List.{List, [], _∷_}
 use Prim.Native.Nat.{ℕ, _<_, _≤_}
 use lib.ListN.{length, replicate}
+use Rattle.text.specs.LineKinds.{ShortBlank}
 use Rattle.session.specs.Output.{State, next, said}
 
 -- `R 7` and LF
@@ -20,4 +21,4 @@ pub record LengthFirst : Type 0 where
   -- up to 136 spaces (32) are skipped
   pub spaces : (s : State) (n : ℕ) → n ≤ 136 → OnlyWrites s (replicate n 32) []
   -- every other line is answered
-  pub only : (s : State) (l : List ℕ) → said s l ≡ [] → (length l ≤ 136) × (l ≡ replicate (length l) 32)
+  pub only : (s : State) (l : List ℕ) → said s l ≡ [] → ShortBlank l

@@ -11,7 +11,7 @@ use lib.Dec.{eqb, ltb}
 use lib.ListN.{length, getD, take, drop, replicate, length-replicate, length-take, drop-of-length-le}
 use lib.Seq.{take-all, drop-cons}
 use Rattle.bits.proofs.Below.{cond-true}
-use Rattle.text.specs.LineKinds.{blank, kindOf}
+use Rattle.text.specs.LineKinds.{ShortBlank, blank, kindOf}
 use Rattle.text.specs.declared.kind.LineKind.{LineKind}
 use Rattle.text.specs.declared.kind.LineKind.the-variants.{TooLong, Blank, Filled}
 
@@ -61,7 +61,7 @@ kind-long l h = kind-told l (lt-ltb 136 (length l) h) refl refl
 pub kind-spaces : (n : ℕ) → n ≤ 136 → Blank ≡ kindOf (replicate n 32)
 kind-spaces n h = kind-told (replicate n 32) (ap (ltb 136) (length-replicate {A = ℕ} n 32) ∙ le-ltb 136 n h) (spaces-blank n) refl
 
--- what follows from two cases of an enum being one
+-- two cases of an enum are never one
 pub never : {A : Type 0} → _≡_ {A = ℕ} 0 1 → A
 never z = absurd (no z)
   where
@@ -73,7 +73,7 @@ cond-blank true u e = never cc
 cond-blank false true e = (refl, refl)
 cond-blank false false e = never cc
 
-pub blank-only : (l : List ℕ) → kindOf l ≡ Blank → (length l ≤ 136) × (l ≡ replicate (length l) 32)
+pub blank-only : (l : List ℕ) → kindOf l ≡ Blank → ShortBlank l
 unfolding kindOf
 blank-only l e =
     let both = cond-blank (ltb 136 (length l)) (blank l) e in

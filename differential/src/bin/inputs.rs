@@ -12,6 +12,9 @@ use std::{env, fs};
 
 const DVCC: u8 = 0x5a;
 
+/// Lines of so many spaces: up to 136 are skipped, above that a line is too long.
+const SPACES: [usize; 5] = [0, 1, 136, 137, 1000];
+
 fn main() {
     let folder = env::args().nth(1).expect("the folder to write into");
     let write = |name: &str, input: Vec<u8>| {
@@ -20,6 +23,11 @@ fn main() {
     write("sample", lines(sample()));
     write("empty", vec![]);
     write("blank", blank());
+    write("spaces_between", spaces_between());
+    for count in SPACES {
+        write(&format!("spaces_{count}"), spaces(count, "\n"));
+        write(&format!("spaces_{count}_no_lf"), spaces(count, ""));
+    }
     write("malformed", text_of(wrong_forms()));
     write("no_last_lf", without_last(lines(stream(DVCC, 3, 2))));
     write("refusals", lines(refusals()));
@@ -82,6 +90,17 @@ fn blank() -> Vec<u8> {
         out.extend([line.into_bytes(), vec![], vec![b' '; 3]]);
     }
     text_of(out)
+}
+
+fn spaces(count: usize, end: &str) -> Vec<u8> {
+    (" ".repeat(count) + end).into_bytes()
+}
+
+/// Spaces after each field of a stream, which they do not disturb.
+fn spaces_between() -> Vec<u8> {
+    let fields = stream(DVCC, 3, 11).into_iter().zip(SPACES.iter().cycle());
+    let lines = fields.flat_map(|(field, count)| [field.into_bytes(), spaces(*count, "")]);
+    text_of(lines.collect())
 }
 
 /// 3, 5 and 6 of SACCH; 3, 4 and 5 of FACCH; 7.
