@@ -78,8 +78,8 @@ fn answers_traffic() {
     tally.end();
 }
 
-/// Document 02, note 12: up to 136 spaces are skipped, more are a line that is too long, and an LF
-/// at the end changes nothing. What is expected is the note's, not the other program's.
+/// Request 12 of document 02: up to 136 spaces are skipped, more are a line that is too long. An LF
+/// at the end changes nothing. What is expected is the request's, not the other program's.
 #[test]
 fn refuses_long_blank_lines() {
     let mut tally = Tally::new("frames, lines of spaces");

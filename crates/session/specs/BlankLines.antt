@@ -1,4 +1,4 @@
--- Long and blank lines (document 02, note 12): length goes before blankness. `LengthFirst` says it of every line in every state of a run; the law is `length-first`.
+-- Long and blank lines (request 12 of document 02): length goes before blankness. `LengthFirst` says it of every line in every state of a run; the law is `length-first`.
 use mathlib.Core.Path.{_≡_}
 use mathlib.Core.List.{List, [], _∷_}
 use Prim.Native.Nat.{ℕ, _<_, _≤_}

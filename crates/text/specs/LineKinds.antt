@@ -1,4 +1,4 @@
--- What a line is before its form is read (document 01, 'The line program `frames`', and document 02, note 12).
+-- What a line is before its form is read (document 01, 'The line program `frames`', and request 12 of document 02).
 -- A line is its bytes up to LF, without it. A character is a byte, a space the byte 32.
 use mathlib.Core.Path.{_≡_}
 use mathlib.Core.Bool.{Bool, true, false, cond}
