@@ -1,4 +1,4 @@
-// What a line is before its form is read: too long, blank or filled. Every program that answers lines shares it.
+// What a line is before its form is read: too long, blank or filled. It knows no form, so that any program of lines can use it.
 ghost use mathlib.Core.Path.{_≡_};
 ghost use Rattle.text.specs.LineKinds.{blank, kindOf};
 
