@@ -1,9 +1,12 @@
 //! The program `frames` beside the same program over the Rust: on traffic of every kind, read in
 //! pieces of every size, and on inputs too long for any buffer.
-use differential::lines::{traffic, wrong_forms};
+use differential::air::{any_word, fields};
+use differential::lines::{CODED, coded_word, facch, sacch, traffic, wrong_forms};
+use differential::phy::sacch::SacchEncoder;
 use differential::prng::Prng;
 use differential::survey::write_answers;
 use differential::tally::{Tally, scaled};
+use std::collections::BTreeMap;
 use std::io::{Read, Write};
 use std::process::{Child, Command, Stdio};
 use std::{env, thread};
@@ -99,6 +102,67 @@ fn refuses_long_blank_lines() {
         "0 to 300 spaces, 1,000 and more, with and without LF",
         inputs,
     );
+    tally.end();
+}
+
+/// An `F` line, its word damaged or not, or a short stream of fields from a discontinuity on, under any
+/// colour code. What it is answered does not depend on what came before.
+fn heard(p: &mut Prng) -> Vec<String> {
+    let dvcc = p.byte();
+    if p.below(4) > 0 {
+        let (word, wrong) = (any_word(p), [0, 3, 60][p.below(3)]);
+        let coded = coded_word(p, word, dvcc, wrong);
+        return vec![facch(dvcc, &coded, &[true; CODED])];
+    }
+    let sent = fields(
+        &mut SacchEncoder::default(),
+        &[any_word(p), any_word(p)],
+        dvcc,
+    );
+    let lines = sent.into_iter().map(|field| sacch(dvcc, field));
+    std::iter::once("D".into()).chain(lines).collect()
+}
+
+/// What the program prints of lines of which none is skipped: the answers, and the lines after them.
+fn answered(lines: &[String]) -> (Vec<String>, Vec<String>) {
+    let input = lines.join("\n");
+    let printed = String::from_utf8(printed(input.as_bytes().chunks(4096))).unwrap();
+    let mut answers: Vec<String> = printed.lines().map(String::from).collect();
+    let closing = answers.split_off(lines.len());
+    (answers, closing)
+}
+
+/// A line for each code with words, ascending.
+fn code_lines(lines: &[String], answers: &[String]) -> Vec<String> {
+    let mut words = BTreeMap::<u8, u64>::new();
+    for (line, answer) in lines.iter().zip(answers) {
+        if answer.starts_with(['W', 'G']) {
+            let dvcc = u8::from_str_radix(&line[2..4], 16).unwrap();
+            *words.entry(dvcc).or_default() += 1;
+        }
+    }
+    let line = |(dvcc, count)| format!("C {dvcc:02x} {count}");
+    words.into_iter().map(line).collect()
+}
+
+/// Request 7 of document 02: the `C` lines come by colour code ascending, and the same words in another
+/// order end in the same lines. What is expected is counted from the codes of the input and the answers
+/// to it, not by the other program.
+#[test]
+fn writes_codes_ascending() {
+    let mut p = Prng(0xc0de);
+    let mut tally = Tally::new("frames, `C` lines");
+    let mut written = 0;
+    for most in [1, 3, 40, 600].repeat(scaled(25)) {
+        let mut stops: Vec<_> = (0..1 + p.below(most)).map(|_| heard(&mut p)).collect();
+        let lines = stops.concat();
+        let (answers, closing) = answered(&lines);
+        assert_eq!(closing[1..], code_lines(&lines, &answers));
+        stops.sort_by_cached_key(|_| p.draw());
+        assert_eq!(answered(&stops.concat()).1, closing);
+        written += closing.len() as u64 - 1;
+    }
+    tally.part("words under 1 to 256 codes, twice in two orders", written);
     tally.end();
 }
 

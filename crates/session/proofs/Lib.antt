@@ -3,6 +3,8 @@ pub mod Replying
 pub mod BlankLines
 pub mod LastLf
 pub mod Closing
+pub mod CodeOrder
+pub mod CodeLines
 pub mod Cut
 pub mod Whole
 pub mod Unread

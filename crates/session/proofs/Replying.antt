@@ -1,8 +1,9 @@
 -- The reply to one line. Assumes nothing.
 use mathlib.Core.Path.{_≡_, refl, sym, ap, _∙_}
-use mathlib.Core.Bool.{Bool, true, false}
+use mathlib.Core.Bool.{Bool, true, false, cond}
 use mathlib.Core.List.{List, [], _∷_}
 use Prim.Native.Nat.{ℕ, _<_, _≤_}
+use native.Mathlib.Omega.{arith}
 use lib.ListN.{length, take, drop, replicate}
 use Rattle.bits.specs.declared.Refusal.the-variants.{Line}
 use Rattle.bits.specs.declared.arguments.Arguments.{Arguments}
@@ -12,14 +13,18 @@ use Rattle.bits.proofs.Refusing.{erasable-passed}
 use Rattle.bits.specs.Observed.{allErasable}
 use Rattle.facch.specs.Decoding.{decodeAnswer, decodeOf, decoding, erasedArguments}
 use Rattle.facch.specs.declared.Decoded.{Decoded}
-use Rattle.lines.specs.Commands.{parsed}
+use Rattle.lines.specs.Commands.{byForm, byKind, discontinuityShape, facchShape, parsed, sacchShape, threeAt}
 use Rattle.lines.specs.Masked.{digitBits, masked, observedBits}
 use Rattle.lines.specs.declared.command.Command.{Command}
 use Rattle.lines.specs.declared.command.Command.the-variants as command
 use Rattle.lines.specs.declared.reply.Reply.{Reply}
 use Rattle.lines.specs.declared.reply.Reply.the-variants as reply
-use Rattle.lines.proofs.Forms.{parsed-long, parsed-spaces}
+use Rattle.lines.proofs.Forms.{facch-line, parsed-long, parsed-spaces, sacch-line}
 use Rattle.lines.proofs.Masking.{length-observed}
+use Rattle.text.specs.Lines.{shaped, twoAt}
+use Rattle.text.specs.LineKinds.{kindOf}
+use Rattle.text.specs.declared.kind.LineKind.{LineKind}
+use Rattle.text.specs.declared.kind.LineKind.the-variants as kind
 use Rattle.text.proofs.LineKinds.{cut-alike}
 use Rattle.sacch_receiver.specs.Receiver.{Moved, moved, outcomeAnswer, freshReceiver, pushOf}
 use Rattle.sacch_receiver.specs.declared.Pushed.{Pushed}
@@ -67,6 +72,24 @@ pub facch-replied : (l : List ℕ) (dvcc : ℕ) {bits : List ℕ} (d : Decoded) 
     → decodeAnswer d ≡ decoding (erasedArguments bits) bits dvcc → a ≡ facchReply (decodeAnswer d) → a ≡ facchReply (decodeOf (observedBits l) dvcc)
 facch-replied l dvcc d long e p f =
     f ∙ ap facchReply (p ∙ ap (λ (bits : List ℕ). decoding (erasedArguments bits) bits dvcc) e ∙ ap (λ (x : Arguments). decoding x (observedBits l) dvcc) (observed-passed l long))
+
+-- ---- the code of a line has two digits
+form-code : (r : SacchReceiver) (l : List ℕ) (t u v : Bool) → shaped sacchShape l ≡ t → shaped facchShape l ≡ v
+    → commandReplied r l (cond t (command.Sacch (twoAt l 2) (threeAt l 5)) (cond u command.Discontinuity (cond v (command.Facch (twoAt l 2)) command.Unknown))) .dvcc < 256
+unfolding commandReplied sacchReplied
+form-code r l true u v e f = let s = sacch-line l e in omega (arith, s .d2, s .d3)
+form-code r l false true v e f = omega arith
+form-code r l false false true e f = let s = facch-line l f in omega (arith, s .d2, s .d3)
+form-code r l false false false e f = omega arith
+
+pub code-below : (r : SacchReceiver) (l : List ℕ) → replyTo r l .dvcc < 256
+unfolding replyTo parsed byKind byForm commandReplied
+code-below r l = by (kindOf l)
+  where
+    by : (k : LineKind) → commandReplied r l (byKind k l) .dvcc < 256
+    by kind.TooLong = omega arith
+    by kind.Blank = omega arith
+    by kind.Filled = form-code r l (shaped sacchShape l) (shaped discontinuityShape l) (shaped facchShape l) refl refl
 
 -- ---- long and blank lines
 pub long-replied : (r : SacchReceiver) (l : List ℕ) → 136 < length l → replyTo r l ≡ record { receiver = r; dvcc = 0; reply = reply.Refused Line }

@@ -1,5 +1,5 @@
 -- The program `frames` (document 01, 'The line program `frames`'): what it writes for an input of any bytes is `output`, the last definition here.
--- What a line is answered is in Replies.antt, how answers are written in lines/specs/Printing.antt, the totals and the closing lines in Totals.antt.
+-- What a line is answered is in Replies.antt, how answers are written in lines/specs/Printing.antt, the totals and the closing lines in Totals.antt, the order of the `C` lines in CodeLines.antt.
 use mathlib.Core.Bool.{cond}
 use mathlib.Core.List.{List, [], _∷_, _++_}
 use Prim.Native.Nat.{ℕ, _+_}
@@ -51,8 +51,14 @@ unfoldable pub spoken : State → List (List ℕ) → List ℕ
 spoken s [] = []
 spoken s (l ∷ ls) = said s l ++ spoken (next s l) ls
 
--- ---- the output: at most 1,000,000 lines are read, skipped ones counted
+-- ---- the output
+-- at most 1,000,000 lines are read, skipped ones counted
+unfoldable pub linesRead : List ℕ → List (List ℕ)
+linesRead input = take 1000000 (linesOf input)
+
+-- the state after them
+unfoldable pub atEnd : List ℕ → State
+atEnd input = after fresh (linesRead input)
+
 unfoldable pub output : List ℕ → List ℕ
-output input =
-    spoken fresh (take 1000000 (linesOf input))
-    ++ closing (after fresh (take 1000000 (linesOf input)) .tally) (after fresh (take 1000000 (linesOf input)) .counts)
+output input = spoken fresh (linesRead input) ++ closing (atEnd input .tally) (atEnd input .counts)

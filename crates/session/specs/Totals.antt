@@ -1,7 +1,6 @@
 -- The totals of accepted words, and the lines that close the output.
-use mathlib.Core.Logic.{_≢_}
 use mathlib.Core.Bool.{cond}
-use mathlib.Core.List.{List, [], _∷_, _++_, List·Memᴰ}
+use mathlib.Core.List.{List, [], _∷_, _++_}
 use Prim.Native.Nat.{ℕ, zero, suc, _+_, _*_, _/_, _≤_}
 use lib.Dec.{eqb}
 use lib.ListN.{getD, set}
@@ -43,32 +42,31 @@ pub record OneAnswer (t : Tally) : Type 0 where
 unfoldable pub rateOf : Tally → ℕ
 rateOf t = cond (eqb (t .coded) 0) 0 (t .corrected * 1000 / t .coded)
 
--- `C dd n` of codes in an order
-unfoldable pub codeLines : List ℕ → List ℕ → List ℕ
-codeLines [] counts = []
-codeLines (d ∷ order) counts = codeText d (getD counts d 0) ++ codeLines order counts
+-- `T w r`
+unfoldable pub totalLine : Tally → List ℕ
+totalLine t = totalText (t .words) (rateOf t)
 
--- Document 01 leaves the order of the `C` lines to the program. This one writes the codes below n that have words from the lowest to the highest;
--- what every order has in common is `EachOnce` below, and the law `lowest-first` says that this one has it.
-unfoldable pub lowestFirst : ℕ → List ℕ → List ℕ
-lowestFirst zero counts = []
-lowestFirst (suc d) counts = lowestFirst d counts ++ cond (eqb (getD counts d 0) 0) [] (d ∷ [])
+-- how many words a code has, by the counts of a run
+abbrev pub countOf : List ℕ → ℕ → ℕ
+countOf counts = λ (d : ℕ). getD counts d 0
+
+-- the codes below n that have words, from the lowest to the highest
+unfoldable pub lowestFirst : ℕ → (ℕ → ℕ) → List ℕ
+lowestFirst zero words = []
+lowestFirst (suc d) words = lowestFirst d words ++ cond (eqb (words d) 0) [] (d ∷ [])
+
+-- `C dd n` of codes one after the other, n being the words of dd
+unfoldable pub linesFor : (ℕ → ℕ) → List ℕ → List ℕ
+linesFor words [] = []
+linesFor words (d ∷ codes) = codeText d (words d) ++ linesFor words codes
+
+-- the `C` lines: those of all 256 colour codes that have words, ascending (request 7 of document 02; CodeLines.antt says it of an input)
+unfoldable pub codeLines : (ℕ → ℕ) → List ℕ
+codeLines words = linesFor words (lowestFirst 256 words)
 
 -- `T w r`, then the `C` lines
 unfoldable pub closing : Tally → List ℕ → List ℕ
-closing t counts = totalText (t .words) (rateOf t) ++ codeLines (lowestFirst 256 counts) counts
-
--- ---- the order of the `C` lines
--- no code twice
-abbrev pub Once : List ℕ → Type 0
-Once [] = Unit {0}
-Once (d ∷ order) = (List·Memᴰ d order → ⊥) × Once order
-
--- each code with accepted words once, and no other
-pub record EachOnce (counts order : List ℕ) : Type 0 where
-  pub once : Once order
-  pub only : (d : ℕ) → List·Memᴰ d order → getD counts d 0 ≢ 0
-  pub all : (d : ℕ) → getD counts d 0 ≢ 0 → List·Memᴰ d order
+closing t counts = totalLine t ++ codeLines (countOf counts)
 
 -- the line of a code, where it has words
 unfoldable pub codeLine : ℕ → ℕ → List ℕ

@@ -6,7 +6,7 @@ ghost use mathlib.Core.Path.{_≡_};
 ghost use Prim.Native.Nat.{_+_, _*_, _≤_, _<_};
 ghost use lib.ListN.{getD, length};
 ghost use Rattle.text.specs.Writing.{Put};
-ghost use Rattle.session.specs.Totals.{OneAnswer, addedBy, closing, codeLine, codeLines, counted, lowestFirst, nothingAdded, oneWord, rateOf, summed};
+ghost use Rattle.session.specs.Totals.{OneAnswer, addedBy, closing, codeLine, codeLines, countOf, counted, nothingAdded, oneWord, rateOf, summed};
 
 // Accepted words, their corrected bits and their coded bits.
 pub struct Tally {
@@ -104,10 +104,10 @@ fn put_line(out: &mut [u8], at: usize, dvcc: u8, words: u32) -> usize
     put_code(out, at, dvcc, words as u64)
 }
 
-// The lines of all codes with words, the lowest first.
+// The lines of all codes with words, by code ascending.
 fn put_codes(counts: &[u32], out: &mut [u8], from: usize) -> usize
     requires { ⌜ (length (now counts) ≡ 256) × (from + 6656 ≤ length (now out)) ⌝ }
-    ensures { λ r. ⌜ Put (now (out .entry)) from (codeLines (lowestFirst 256 (now (counts .entry))) (now (counts .entry))) (now (out .exit)) r ⌝ }
+    ensures { λ r. ⌜ Put (now (out .entry)) from (codeLines (countOf (now (counts .entry)))) (now (out .exit)) r ⌝ }
     ensures { λ r. ⌜ r ≤ from + 6656 ⌝ }
 {
     let mut at = from;

@@ -33,6 +33,8 @@ fn main() {
     write("refusals", lines(refusals()));
     write("discontinuity", lines(discontinuity()));
     write("colour_codes", lines(colour_codes()));
+    write("codes_ff_00_5a", lines(three_codes()));
+    write("codes_all", lines(all_codes()));
     write("damaged", lines(damaged_stream()));
     write("halves", lines(halves()));
     write("between", between());
@@ -171,6 +173,31 @@ fn colour_codes() -> Vec<String> {
     }
     out.extend(last);
     out
+}
+
+/// Words under ff, then 00, then 5a, whose `C` lines come the other way round: one, three and two.
+fn three_codes() -> Vec<String> {
+    let mut p = Prng(12);
+    let mut out = vec![clean_word(&mut p, 0xff)];
+    out.extend(stream(0x00, 3, 12));
+    out.push(clean_word(&mut p, 0x00));
+    out.push("D".into());
+    out.extend(stream(0x5a, 3, 13));
+    out
+}
+
+/// A word under each of the 256 codes, in no order, and a second one under every seventh.
+fn all_codes() -> Vec<String> {
+    let mut p = Prng(14);
+    let mixed = |k: u8| k.wrapping_mul(141).wrapping_add(7);
+    let codes = (0..=255).map(mixed).chain((0..=255).step_by(7));
+    codes.map(|dvcc| clean_word(&mut p, dvcc)).collect()
+}
+
+/// An `F` line with every bit as sent.
+fn clean_word(p: &mut Prng, dvcc: u8) -> String {
+    let word = any_word(p);
+    facch(dvcc, &coded_word(p, word, dvcc, 0), &[true; CODED])
 }
 
 /// Wrong bits in a tenth of the fields, and a fade.

@@ -1,0 +1,93 @@
+-- The `C` lines of an input: the counts of a run are the words of its answers, and their lines end the output. Assumes nothing.
+use mathlib.Core.Path.{_≡_, refl, sym, ap, subst, fun-ext, _∙_}
+use mathlib.Core.Bool.{cond}
+use mathlib.Core.List.{List, [], _∷_, _++_}
+use Prim.Native.Nat.{ℕ, _+_, _<_, _≤_}
+use native.Mathlib.Decide.{decLt, ℕ-discrete}
+use native.Mathlib.Nat.{add-zero, add-assoc, zero-add}
+use native.Mathlib.Omega.{arith}
+use borrow.Author.Tests.{eq-eqb, ne-eqb}
+use lib.Dec.{eqb}
+use lib.ListN.{length, getD, length-set, getD-replicate, List·getD-eq-default}
+use lib.Seq.{getD-set-same, getD-set-other}
+use Rattle.session.specs.CodeLines.{CodeOrder, CodesAscending, answers, wordsOf, wordsUnder}
+use Rattle.session.specs.Output.{State, after, atEnd, fresh, linesRead, next, output, spoken}
+use Rattle.session.specs.Replies.{replyTo}
+use Rattle.session.specs.Totals.{addedBy, closing, codeLines, counted, countOf, linesFor, lowestFirst, totalLine}
+use Rattle.session.proofs.CodeOrder.{lowest-first, one-order}
+use Rattle.session.proofs.Replying.{code-below}
+
+-- ---- the counts of a run
+counted-at : (counts : List ℕ) (dvcc n d : ℕ) → d < length counts → getD (counted counts dvcc n) d 0 ≡ getD counts d 0 + cond (eqb dvcc d) n 0
+unfolding counted
+counted-at counts dvcc n d h = elim (ℕ-discrete dvcc d) [
+  | yes e ↦ rw (eq-eqb dvcc d e, e) (getD-set-same counts d (getD counts d 0 + n) 0 h)
+  | no e ↦ rw (ne-eqb dvcc d e) (getD-set-other counts dvcc d (getD counts dvcc 0 + n) 0 (λ f. e (sym f)) ∙ sym (add-zero (getD counts d 0)))
+]
+
+counts-length : (ls : List (List ℕ)) (s : State) → length (after s ls .counts) ≡ length (s .counts)
+unfolding after next counted
+counts-length [] s = refl
+counts-length (l ∷ ls) s = counts-length ls (next s l) ∙ length-set (s .counts) _ _
+
+-- what a line adds to the words of the code d
+abbrev addedUnder : State → List ℕ → ℕ → ℕ
+addedUnder s l d = cond (eqb (replyTo (s .receiver) l .dvcc) d) (addedBy (replyTo (s .receiver) l .reply) .words) 0
+
+counts-next : (s : State) (l : List ℕ) (d : ℕ) → d < length (s .counts) → getD (next s l .counts) d 0 ≡ getD (s .counts) d 0 + addedUnder s l d
+unfolding next
+counts-next s l d h = counted-at (s .counts) (replyTo (s .receiver) l .dvcc) (addedBy (replyTo (s .receiver) l .reply) .words) d h
+
+counts-after : (ls : List (List ℕ)) (s : State) (d : ℕ) → d < length (s .counts) → getD (after s ls .counts) d 0 ≡ getD (s .counts) d 0 + wordsUnder d (answers s ls)
+unfolding after answers wordsUnder
+counts-after [] s d h = sym (add-zero (getD (s .counts) d 0))
+counts-after (l ∷ ls) s d h =
+    let rest = wordsUnder d (answers (next s l) ls) in
+    counts-after ls (next s l) d (subst (λ (n : ℕ). d < n) (sym (counts-length (l ∷ []) s)) h)
+    ∙ ap (λ (n : ℕ). n + rest) (counts-next s l d h) ∙ add-assoc (getD (s .counts) d 0) (addedUnder s l d) rest
+
+-- no line is under a code above 255
+none-past : (ls : List (List ℕ)) (s : State) (d : ℕ) → 256 ≤ d → wordsUnder d (answers s ls) ≡ 0
+unfolding answers wordsUnder
+none-past [] s d h = refl
+none-past (l ∷ ls) s d h =
+    let low = code-below (s .receiver) l in
+    rw (ne-eqb (replyTo (s .receiver) l .dvcc) d (λ e. let z : ⊥ = omega arith in z), none-past ls (next s l) d h) refl
+
+counts-words : (input : List ℕ) → countOf (atEnd input .counts) ≡ wordsOf input
+unfolding atEnd wordsOf fresh
+counts-words input = fun-ext (λ d. elim (decLt d 256) [
+  | yes h ↦ counts-after ls fresh d h ∙ rw (getD-replicate {A = ℕ} 256 d 0 0 h) (zero-add (wordsUnder d (answers fresh ls)))
+  | no h ↦ past d (omega arith)
+])
+  where
+    ls : List (List ℕ)
+    ls = linesRead input
+
+    past : (d : ℕ) → 256 ≤ d → getD (after fresh ls .counts) d 0 ≡ wordsUnder d (answers fresh ls)
+    past d h =
+        let long : length (after fresh ls .counts) ≤ d = omega (arith, counts-length ls fresh) in
+        List·getD-eq-default (after fresh ls .counts) 0 long ∙ sym (none-past ls fresh d h)
+
+-- ---- THE RULE of the `C` lines
+ordered : (input : List ℕ) → CodeOrder (wordsOf input) (lowestFirst 256 (wordsOf input))
+unfolding wordsOf
+ordered input = lowest-first (wordsOf input) (none-past (linesRead input) fresh)
+
+lines-ordered : (input codes : List ℕ) → CodeOrder (wordsOf input) codes → codeLines (wordsOf input) ≡ linesFor (wordsOf input) codes
+unfolding codeLines
+lines-ordered input codes p = ap (linesFor (wordsOf input)) (one-order (ordered input) p)
+
+lines-written : (input : List ℕ) → output input ≡ spoken fresh (linesRead input) ++ (totalLine (atEnd input .tally) ++ codeLines (wordsOf input))
+unfolding output closing
+lines-written input =
+    ap (λ (words : ℕ → ℕ). spoken fresh (linesRead input) ++ (totalLine (atEnd input .tally) ++ codeLines words)) (counts-words input)
+
+pub codes-ascending : CodesAscending
+codes-ascending =
+    record {
+      some = λ input. (lowestFirst 256 (wordsOf input), ordered input);
+      one = λ words a b. one-order;
+      lines = lines-ordered;
+      written = lines-written;
+    }
