@@ -162,7 +162,7 @@ fn writes_codes_ascending() {
         assert_eq!(answered(&stops.concat()).1, closing);
         written += closing.len() as u64 - 1;
     }
-    tally.part("words under 1 to 256 codes, twice in two orders", written);
+    tally.part("codes with words, each input in two orders", written);
     tally.end();
 }
 
