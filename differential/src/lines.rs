@@ -41,6 +41,12 @@ pub fn coded_word(p: &mut Prng, given: Given, dvcc: u8, wrong: usize) -> [bool; 
     coded
 }
 
+/// The `F` line of any word, with so many wrong bits and every bit observed.
+pub fn whole_word(p: &mut Prng, dvcc: u8, wrong: usize) -> String {
+    let word = any_word(p);
+    facch(dvcc, &coded_word(p, word, dvcc, wrong), &[true; CODED])
+}
+
 /// The places that one half of a word takes.
 pub fn half(half: WordHalf) -> [bool; CODED] {
     facch::observe_half(&[false; CODED], half).map(|bit| bit.is_some())

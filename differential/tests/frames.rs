@@ -1,7 +1,7 @@
 //! The program `frames` beside the same program over the Rust: on traffic of every kind, read in
 //! pieces of every size, and on inputs too long for any buffer.
 use differential::air::{any_word, fields};
-use differential::lines::{CODED, coded_word, facch, sacch, traffic, wrong_forms};
+use differential::lines::{sacch, traffic, whole_word, wrong_forms};
 use differential::phy::sacch::SacchEncoder;
 use differential::prng::Prng;
 use differential::survey::write_answers;
@@ -107,18 +107,14 @@ fn refuses_long_blank_lines() {
 
 /// An `F` line, its word damaged or not, or a short stream of fields from a discontinuity on, under any
 /// colour code. What it is answered does not depend on what came before.
-fn heard(p: &mut Prng) -> Vec<String> {
+fn word_or_stream(p: &mut Prng) -> Vec<String> {
     let dvcc = p.byte();
     if p.below(4) > 0 {
-        let (word, wrong) = (any_word(p), [0, 3, 60][p.below(3)]);
-        let coded = coded_word(p, word, dvcc, wrong);
-        return vec![facch(dvcc, &coded, &[true; CODED])];
+        let wrong = [0, 3, 60][p.below(3)];
+        return vec![whole_word(p, dvcc, wrong)];
     }
-    let sent = fields(
-        &mut SacchEncoder::default(),
-        &[any_word(p), any_word(p)],
-        dvcc,
-    );
+    let words = [any_word(p), any_word(p)];
+    let sent = fields(&mut SacchEncoder::default(), &words, dvcc);
     let lines = sent.into_iter().map(|field| sacch(dvcc, field));
     std::iter::once("D".into()).chain(lines).collect()
 }
@@ -132,17 +128,16 @@ fn answered(lines: &[String]) -> (Vec<String>, Vec<String>) {
     (answers, closing)
 }
 
-/// A line for each code with words, ascending.
-fn code_lines(lines: &[String], answers: &[String]) -> Vec<String> {
-    let mut words = BTreeMap::<u8, u64>::new();
+/// How many words each code has, ascending.
+fn words_of_codes(lines: &[String], answers: &[String]) -> BTreeMap<u8, u64> {
+    let mut words = BTreeMap::new();
     for (line, answer) in lines.iter().zip(answers) {
         if answer.starts_with(['W', 'G']) {
             let dvcc = u8::from_str_radix(&line[2..4], 16).unwrap();
             *words.entry(dvcc).or_default() += 1;
         }
     }
-    let line = |(dvcc, count)| format!("C {dvcc:02x} {count}");
-    words.into_iter().map(line).collect()
+    words
 }
 
 /// Request 7 of document 02: the `C` lines come by colour code ascending, and the same words in another
@@ -154,13 +149,17 @@ fn writes_codes_ascending() {
     let mut tally = Tally::new("frames, `C` lines");
     let mut written = 0;
     for most in [1, 3, 40, 600].repeat(scaled(25)) {
-        let mut stops: Vec<_> = (0..1 + p.below(most)).map(|_| heard(&mut p)).collect();
-        let lines = stops.concat();
+        let count = 1 + p.below(most);
+        let mut parts: Vec<_> = (0..count).map(|_| word_or_stream(&mut p)).collect();
+        let lines = parts.concat();
         let (answers, closing) = answered(&lines);
-        assert_eq!(closing[1..], code_lines(&lines, &answers));
-        stops.sort_by_cached_key(|_| p.draw());
-        assert_eq!(answered(&stops.concat()).1, closing);
-        written += closing.len() as u64 - 1;
+        let words = words_of_codes(&lines, &answers);
+        let line = |(dvcc, count): (&u8, &u64)| format!("C {dvcc:02x} {count}");
+        assert!(closing[0].starts_with(&format!("T {} ", words.values().sum::<u64>())));
+        assert_eq!(closing[1..], words.iter().map(line).collect::<Vec<_>>());
+        parts.sort_by_cached_key(|_| p.draw());
+        assert_eq!(answered(&parts.concat()).1, closing);
+        written += words.len() as u64;
     }
     tally.part("codes with words, each input in two orders", written);
     tally.end();

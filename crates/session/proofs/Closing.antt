@@ -3,7 +3,7 @@ use mathlib.Core.Path.{_≡_, refl, sym, ap, subst, _∙_}
 use mathlib.Core.Logic.{_≢_}
 use mathlib.Core.Bool.{Bool, true, false, cond}
 use mathlib.Core.List.{List, [], _∷_, _++_, append-nil, append-assoc}
-use Prim.Native.Nat.{ℕ, zero, suc, _+_, _*_, _/_, _<_, _≤_}
+use Prim.Native.Nat.{ℕ, _+_, _*_, _/_, _<_, _≤_}
 use native.Mathlib.Numerals.{add-one}
 use native.Mathlib.Omega.{arith}
 use borrow.Author.Tests.{eq-eqb, ne-eqb}
@@ -13,7 +13,7 @@ use Rattle.lines.specs.Printing.{codeText, totalText}
 use Rattle.text.specs.Writing.{Put}
 use Rattle.text.proofs.Stored.{put-then, put-nothing}
 use Rattle.session.specs.declared.totals.Tally.{Tally}
-use Rattle.session.specs.Totals.{closing, codeLine, codeLines, countOf, linesFor, lowestFirst, rateOf, totalLine}
+use Rattle.session.specs.Totals.{closing, codeLine, codeLines, countOf, codeTexts, lowestFirst, rateOf, totalLine}
 
 -- ---- the rate
 pub rate-none : (t : Tally) → t .coded ≡ 0 → 0 ≡ rateOf t
@@ -36,37 +36,37 @@ module _ (d n : ℕ) where
 
 -- ---- the lines of many
 module _ (words : ℕ → ℕ) where
-  lines-append : (us ws : List ℕ) → linesFor words (us ++ ws) ≡ linesFor words us ++ linesFor words ws
-  unfolding linesFor
+  lines-append : (us ws : List ℕ) → codeTexts words (us ++ ws) ≡ codeTexts words us ++ codeTexts words ws
+  unfolding codeTexts
   lines-append [] ws = refl
   lines-append (u ∷ us) ws =
       ap (λ (l : List ℕ). codeText u (words u) ++ l) (lines-append us ws)
-      ∙ sym (append-assoc (codeText u (words u)) (linesFor words us) (linesFor words ws))
+      ∙ sym (append-assoc (codeText u (words u)) (codeTexts words us) (codeTexts words ws))
 
-  lines-one : (d : ℕ) → linesFor words (cond (eqb (words d) 0) [] (d ∷ [])) ≡ codeLine d (words d)
-  unfolding linesFor codeLine
+  lines-one : (d : ℕ) → codeTexts words (cond (eqb (words d) 0) [] (d ∷ [])) ≡ codeLine d (words d)
+  unfolding codeTexts codeLine
   lines-one d = by (eqb (words d) 0)
     where
-      by : (t : Bool) → linesFor words (cond t [] (d ∷ [])) ≡ cond t [] (codeText d (words d))
+      by : (t : Bool) → codeTexts words (cond t [] (d ∷ [])) ≡ cond t [] (codeText d (words d))
       by true = refl
       by false = append-nil (codeText d (words d))
 
-  lines-more : (d : ℕ) → linesFor words (lowestFirst (d + 1) words) ≡ linesFor words (lowestFirst d words) ++ codeLine d (words d)
+  lines-more : (d : ℕ) → codeTexts words (lowestFirst (d + 1) words) ≡ codeTexts words (lowestFirst d words) ++ codeLine d (words d)
   unfolding lowestFirst
   lines-more d =
-      ap (λ (n : ℕ). linesFor words (lowestFirst n words)) (add-one d)
+      ap (λ (n : ℕ). codeTexts words (lowestFirst n words)) (add-one d)
       ∙ lines-append (lowestFirst d words) (cond (eqb (words d) 0) [] (d ∷ []))
-      ∙ ap (λ (l : List ℕ). linesFor words (lowestFirst d words) ++ l) (lines-one d)
+      ∙ ap (λ (l : List ℕ). codeTexts words (lowestFirst d words) ++ l) (lines-one d)
 
 -- the loop of `put_codes`: the lines of the codes below d are written
 pub record Listing (counts out : List ℕ) (from d : ℕ) (out′ : List ℕ) (at : ℕ) : Type 0 where
   pub most : d ≤ 256
   pub room : at ≤ from + 26 * d
-  pub text : Put out from (linesFor (countOf counts) (lowestFirst d (countOf counts))) out′ at
+  pub text : Put out from (codeTexts (countOf counts) (lowestFirst d (countOf counts))) out′ at
 
 module _ {counts out : List ℕ} {from : ℕ} where
   pub listing-none : Listing counts out from 0 out from
-  unfolding linesFor lowestFirst
+  unfolding codeTexts lowestFirst
   listing-none = record { most = omega arith; room = omega arith; text = put-nothing out from }
 
   module _ {d : ℕ} {out′ : List ℕ} {at : ℕ} (p : Listing counts out from d out′ at) where
@@ -85,7 +85,7 @@ module _ {counts out : List ℕ} {from : ℕ} where
     unfolding codeLines
     listing-done h =
         let e : d ≡ 256 = omega (arith, p .most) in
-        (subst (λ (n : ℕ). Put out from (linesFor (countOf counts) (lowestFirst n (countOf counts))) out′ at) e (p .text), omega (arith, p .room))
+        (subst (λ (n : ℕ). Put out from (codeTexts (countOf counts) (lowestFirst n (countOf counts))) out′ at) e (p .text), omega (arith, p .room))
 
 -- ---- the closing lines
 pub closing-put : (t : Tally) (counts : List ℕ) {m : ℕ} {o0 o1 o2 : List ℕ} {i j k : ℕ} → m ≡ rateOf t → Put o0 i (totalText (t .words) m) o1 j

@@ -10,10 +10,12 @@ use borrow.Author.Tests.{eq-eqb, ne-eqb}
 use lib.Dec.{eqb}
 use lib.ListN.{length, getD, length-set, getD-replicate, List·getD-eq-default}
 use lib.Seq.{getD-set-same, getD-set-other}
-use Rattle.session.specs.CodeLines.{CodeOrder, CodesAscending, answers, wordsOf, wordsUnder}
-use Rattle.session.specs.Output.{State, after, atEnd, fresh, linesRead, next, output, spoken}
+use Rattle.sacch_receiver.specs.Receiver.{freshReceiver}
+use Rattle.sacch_receiver.specs.declared.SacchReceiver.{SacchReceiver}
+use Rattle.session.specs.CodeLines.{CodeOrder, CodesAscending, replies, wordsOf, wordsUnder}
+use Rattle.session.specs.Output.{State, after, finalState, fresh, linesRead, next, output, spoken}
 use Rattle.session.specs.Replies.{replyTo}
-use Rattle.session.specs.Totals.{addedBy, closing, codeLines, counted, countOf, linesFor, lowestFirst, totalLine}
+use Rattle.session.specs.Totals.{addedBy, closing, codeLines, counted, countOf, codeTexts, lowestFirst, totalLine}
 use Rattle.session.proofs.CodeOrder.{lowest-first, one-order}
 use Rattle.session.proofs.Replying.{code-below}
 
@@ -31,63 +33,60 @@ counts-length [] s = refl
 counts-length (l ∷ ls) s = counts-length ls (next s l) ∙ length-set (s .counts) _ _
 
 -- what a line adds to the words of the code d
-abbrev addedUnder : State → List ℕ → ℕ → ℕ
-addedUnder s l d = cond (eqb (replyTo (s .receiver) l .dvcc) d) (addedBy (replyTo (s .receiver) l .reply) .words) 0
+abbrev addedUnder : SacchReceiver → List ℕ → ℕ → ℕ
+addedUnder r l d = cond (eqb (replyTo r l .dvcc) d) (addedBy (replyTo r l .reply) .words) 0
 
-counts-next : (s : State) (l : List ℕ) (d : ℕ) → d < length (s .counts) → getD (next s l .counts) d 0 ≡ getD (s .counts) d 0 + addedUnder s l d
+counts-next : (s : State) (l : List ℕ) (d : ℕ) → d < length (s .counts) → getD (next s l .counts) d 0 ≡ getD (s .counts) d 0 + addedUnder (s .receiver) l d
 unfolding next
 counts-next s l d h = counted-at (s .counts) (replyTo (s .receiver) l .dvcc) (addedBy (replyTo (s .receiver) l .reply) .words) d h
 
-counts-after : (ls : List (List ℕ)) (s : State) (d : ℕ) → d < length (s .counts) → getD (after s ls .counts) d 0 ≡ getD (s .counts) d 0 + wordsUnder d (answers s ls)
-unfolding after answers wordsUnder
+counts-after : (ls : List (List ℕ)) (s : State) (d : ℕ) → d < length (s .counts) → getD (after s ls .counts) d 0 ≡ getD (s .counts) d 0 + wordsUnder d (replies (s .receiver) ls)
+unfolding after next replies wordsUnder
 counts-after [] s d h = sym (add-zero (getD (s .counts) d 0))
 counts-after (l ∷ ls) s d h =
-    let rest = wordsUnder d (answers (next s l) ls) in
+    let rest = wordsUnder d (replies (next s l .receiver) ls) in
     counts-after ls (next s l) d (subst (λ (n : ℕ). d < n) (sym (counts-length (l ∷ []) s)) h)
-    ∙ ap (λ (n : ℕ). n + rest) (counts-next s l d h) ∙ add-assoc (getD (s .counts) d 0) (addedUnder s l d) rest
+    ∙ ap (λ (n : ℕ). n + rest) (counts-next s l d h) ∙ add-assoc (getD (s .counts) d 0) (addedUnder (s .receiver) l d) rest
 
 -- no line is under a code above 255
-none-past : (ls : List (List ℕ)) (s : State) (d : ℕ) → 256 ≤ d → wordsUnder d (answers s ls) ≡ 0
-unfolding answers wordsUnder
-none-past [] s d h = refl
-none-past (l ∷ ls) s d h =
-    let low = code-below (s .receiver) l in
-    rw (ne-eqb (replyTo (s .receiver) l .dvcc) d (λ e. let z : ⊥ = omega arith in z), none-past ls (next s l) d h) refl
+none-past : (ls : List (List ℕ)) (r : SacchReceiver) (d : ℕ) → 256 ≤ d → wordsUnder d (replies r ls) ≡ 0
+unfolding replies wordsUnder
+none-past [] r d h = refl
+none-past (l ∷ ls) r d h =
+    let low = code-below r l in
+    rw (ne-eqb (replyTo r l .dvcc) d (λ e. let z : ⊥ = omega arith in z), none-past ls (replyTo r l .receiver) d h) refl
 
-counts-words : (input : List ℕ) → countOf (atEnd input .counts) ≡ wordsOf input
-unfolding atEnd wordsOf fresh
+counts-words : (input : List ℕ) → countOf (finalState input .counts) ≡ wordsOf input
+unfolding finalState wordsOf fresh
 counts-words input = fun-ext (λ d. elim (decLt d 256) [
-  | yes h ↦ counts-after ls fresh d h ∙ rw (getD-replicate {A = ℕ} 256 d 0 0 h) (zero-add (wordsUnder d (answers fresh ls)))
+  | yes h ↦ counts-after ls fresh d h ∙ rw (getD-replicate {A = ℕ} 256 d 0 0 h) (zero-add (wordsUnder d (replies freshReceiver ls)))
   | no h ↦ past d (omega arith)
 ])
   where
     ls : List (List ℕ)
     ls = linesRead input
 
-    past : (d : ℕ) → 256 ≤ d → getD (after fresh ls .counts) d 0 ≡ wordsUnder d (answers fresh ls)
+    past : (d : ℕ) → 256 ≤ d → getD (after fresh ls .counts) d 0 ≡ wordsUnder d (replies freshReceiver ls)
     past d h =
         let long : length (after fresh ls .counts) ≤ d = omega (arith, counts-length ls fresh) in
-        List·getD-eq-default (after fresh ls .counts) 0 long ∙ sym (none-past ls fresh d h)
+        List·getD-eq-default (after fresh ls .counts) 0 long ∙ sym (none-past ls freshReceiver d h)
 
 -- ---- THE RULE of the `C` lines
 ordered : (input : List ℕ) → CodeOrder (wordsOf input) (lowestFirst 256 (wordsOf input))
 unfolding wordsOf
-ordered input = lowest-first (wordsOf input) (none-past (linesRead input) fresh)
+ordered input = lowest-first (wordsOf input) (none-past (linesRead input) freshReceiver)
 
-lines-ordered : (input codes : List ℕ) → CodeOrder (wordsOf input) codes → codeLines (wordsOf input) ≡ linesFor (wordsOf input) codes
-unfolding codeLines
-lines-ordered input codes p = ap (linesFor (wordsOf input)) (one-order (ordered input) p)
-
-lines-written : (input : List ℕ) → output input ≡ spoken fresh (linesRead input) ++ (totalLine (atEnd input .tally) ++ codeLines (wordsOf input))
-unfolding output closing
-lines-written input =
-    ap (λ (words : ℕ → ℕ). spoken fresh (linesRead input) ++ (totalLine (atEnd input .tally) ++ codeLines words)) (counts-words input)
+lines-written : (input codes : List ℕ) → CodeOrder (wordsOf input) codes
+    → output input ≡ spoken fresh (linesRead input) ++ (totalLine (finalState input .tally) ++ codeTexts (wordsOf input) codes)
+unfolding output closing codeLines
+lines-written input codes p =
+    let end : List ℕ → List ℕ = λ l. spoken fresh (linesRead input) ++ (totalLine (finalState input .tally) ++ l) in
+    ap (λ (words : ℕ → ℕ). end (codeLines words)) (counts-words input) ∙ ap (λ (order : List ℕ). end (codeTexts (wordsOf input) order)) (one-order (ordered input) p)
 
 pub codes-ascending : CodesAscending
 codes-ascending =
     record {
-      some = λ input. (lowestFirst 256 (wordsOf input), ordered input);
-      one = λ words a b. one-order;
-      lines = lines-ordered;
+      exists = λ input. (lowestFirst 256 (wordsOf input), ordered input);
+      unique = λ words a b. one-order;
       written = lines-written;
     }

@@ -1,4 +1,4 @@
--- Lists of codes: only one is ascending and has all codes with words and no other, and that is the codes with words from the lowest on. Assumes nothing.
+-- Only one list of codes is ascending and has all codes with words and no other; `lowestFirst` is it where no code above 255 has words. Assumes nothing.
 use mathlib.Core.Path.{_≡_, refl, sym, ap, ap₂, subst}
 use mathlib.Core.Logic.{_≢_, ⊎-elim}
 use mathlib.Core.Bool.{Bool, true, false, cond}
@@ -50,14 +50,20 @@ module _ (words : ℕ → ℕ) where
   abbrev here : ℕ → List ℕ
   here d = cond (eqb (words d) 0) [] (d ∷ [])
 
+  here-none : (d : ℕ) → words d ≡ 0 → here d ≡ []
+  here-none d e = rw (eq-eqb (words d) 0 e) refl
+
+  here-some : (d : ℕ) → words d ≢ 0 → here d ≡ d ∷ []
+  here-some d n = rw (ne-eqb (words d) 0 n) refl
+
   in-here : (d k : ℕ) → In k (here d) → (k ≡ d) × (words d ≢ 0)
-  in-here d k = elim (ℕ-discrete (words d) 0) [
-    | yes e ↦ (λ m. absurd (List·Memᴰ·not-nil (subst (In k) (ap (λ (t : Bool). cond t [] (d ∷ [])) (eq-eqb (words d) 0 e)) m)))
-    | no n ↦ (λ m. (List·Memᴰ·eq-of-singleton (subst (In k) (ap (λ (t : Bool). cond t [] (d ∷ [])) (ne-eqb (words d) 0 n)) m), n))
+  in-here d k m = elim (ℕ-discrete (words d) 0) [
+    | yes e ↦ absurd (List·Memᴰ·not-nil (subst (In k) (here-none d e) m))
+    | no n ↦ (List·Memᴰ·eq-of-singleton (subst (In k) (here-some d n) m), n)
   ]
 
   here-in : (d : ℕ) → words d ≢ 0 → In d (here d)
-  here-in d n = subst (In d) (sym (ap (λ (t : Bool). cond t [] (d ∷ [])) (ne-eqb (words d) 0 n))) (List·Memᴰ·head refl)
+  here-in d n = subst (In d) (sym (here-some d n)) (List·Memᴰ·head refl)
 
   -- those below n
   below : (n k : ℕ) → In k (lowestFirst n words) → (k < n) × (words k ≢ 0)

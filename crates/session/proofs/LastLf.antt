@@ -7,7 +7,7 @@ use native.Mathlib.Omega.{arith}
 use lib.Dec.{eqb}
 use lib.ListN.{take}
 use lib.Seq.{take-nil}
-use Rattle.session.specs.Output.{State, after, atEnd, fresh, linesFrom, linesOf, linesRead, next, output, said, spoken}
+use Rattle.session.specs.Output.{State, after, finalState, fresh, linesFrom, linesOf, linesRead, next, output, said, spoken}
 use Rattle.session.specs.Totals.{closing}
 use Rattle.session.proofs.BlankLines.{length-first}
 use Rattle.session.proofs.Whole.{lines-part}
@@ -59,7 +59,7 @@ lf-alike [] part = end-alike part
 lf-alike (b ∷ rest) part = byte-alike (eqb b 10) part (lf-alike rest []) (lf-alike rest (part ++ (b ∷ [])))
 
 pub last-lf : (input : List ℕ) → output (input ++ 10 ∷ []) ≡ output input
-unfolding output linesRead atEnd linesOf
+unfolding output linesRead finalState linesOf
 last-lf input =
     let alike = lf-alike input [] in
     ap₂ (λ (x : List ℕ) (s : State). x ++ closing (s .tally) (s .counts)) (alike .written 1000000 fresh) (alike .left 1000000 fresh)

@@ -7,7 +7,7 @@ use native.Mathlib.Numerals.{sub-one}
 use lib.Dec.{eqb, eqb·suc-zero}
 use lib.ListN.{length, take}
 use lib.Seq.{take-nil}
-use Rattle.session.specs.Output.{State, next, said, after, spoken, linesFrom, linesOf, linesRead, fresh, atEnd, output}
+use Rattle.session.specs.Output.{State, next, said, after, spoken, linesFrom, linesOf, linesRead, fresh, finalState, output}
 use Rattle.session.specs.Totals.{closing}
 use Rattle.session.specs.Scanning.{Scan, ended, endSaid, grown, byteSeen, byteSaid, seen, bytesSaid, closed, closeSaid}
 use Rattle.session.specs.Contracts.{atStart, endText}
@@ -152,9 +152,9 @@ whole-state (b ∷ rest) k s part = state-byte (eqb b 10) rest (whole-state rest
 
 -- ---- byte by byte, and the end after them, it is the output of the definition
 pub whole : (input : List ℕ) → output input ≡ bytesSaid atStart input ++ endText (seen atStart input)
-unfolding output linesRead atEnd linesOf endText atStart
+unfolding output linesRead finalState linesOf endText atStart
 whole input =
-    ap (λ (x : List ℕ). x ++ closing (atEnd input .tally) (atEnd input .counts))
+    ap (λ (x : List ℕ). x ++ closing (finalState input .tally) (finalState input .counts))
     (whole-said input 1000000 fresh [])
     ∙ ap (λ (x : State). (bytesSaid atStart input ++ closeSaid (seen atStart input)) ++ closing (x .tally) (x .counts)) (whole-state input 1000000 fresh [])
     ∙ append-assoc (bytesSaid atStart input) (closeSaid (seen atStart input)) (closing (closed (seen atStart input) .tally) (closed (seen atStart input) .counts))

@@ -5,25 +5,27 @@ use mathlib.Core.Bool.{cond}
 use mathlib.Core.List.{List, [], _∷_, _++_, List·Memᴰ}
 use Prim.Native.Nat.{ℕ, _+_, _<_}
 use lib.Dec.{eqb}
+use Rattle.sacch_receiver.specs.Receiver.{freshReceiver}
+use Rattle.sacch_receiver.specs.declared.SacchReceiver.{SacchReceiver}
 use Rattle.session.specs.declared.replies.Replied.{Replied}
-use Rattle.session.specs.Output.{State, atEnd, fresh, linesRead, next, output, spoken}
+use Rattle.session.specs.Output.{finalState, fresh, linesRead, output, spoken}
 use Rattle.session.specs.Replies.{replyTo}
-use Rattle.session.specs.Totals.{addedBy, codeLines, linesFor, totalLine}
+use Rattle.session.specs.Totals.{addedBy, codeTexts, totalLine}
 
 -- ---- the words of a code
--- the answers to lines, one after the other
-unfoldable pub answers : State → List (List ℕ) → List Replied
-answers s [] = []
-answers s (l ∷ ls) = replyTo (s .receiver) l ∷ answers (next s l) ls
+-- the replies to lines, one after the other
+unfoldable pub replies : SacchReceiver → List (List ℕ) → List Replied
+replies r [] = []
+replies r (l ∷ ls) = replyTo r l ∷ replies (replyTo r l .receiver) ls
 
--- how many accepted words, `W` and `G`, answer lines under the code d
+-- how many lines under the code d are answered with an accepted word, `W` or `G`
 unfoldable pub wordsUnder : ℕ → List Replied → ℕ
 wordsUnder d [] = 0
 wordsUnder d (a ∷ rest) = cond (eqb (a .dvcc) d) (addedBy (a .reply) .words) 0 + wordsUnder d rest
 
 -- those of an input
 unfoldable pub wordsOf : List ℕ → ℕ → ℕ
-wordsOf input = λ (d : ℕ). wordsUnder d (answers fresh (linesRead input))
+wordsOf input = λ (d : ℕ). wordsUnder d (replies freshReceiver (linesRead input))
 
 -- ---- the order of the codes
 -- each is below all that follow it, so that none stands twice
@@ -40,10 +42,9 @@ pub record CodeOrder (words : ℕ → ℕ) (codes : List ℕ) : Type 0 where
 -- ---- the rule
 pub record CodesAscending : Type 0 where
   -- every input has such a list of codes
-  pub some : (input : List ℕ) → (codes : List ℕ) × CodeOrder (wordsOf input) codes
+  pub exists : (input : List ℕ) → (codes : List ℕ) × CodeOrder (wordsOf input) codes
   -- and no two lists are such
-  pub one : (words : ℕ → ℕ) (a b : List ℕ) → CodeOrder words a → CodeOrder words b → a ≡ b
-  -- the `C` lines are the lines of these codes, each with its words
-  pub lines : (input codes : List ℕ) → CodeOrder (wordsOf input) codes → codeLines (wordsOf input) ≡ linesFor (wordsOf input) codes
-  -- the output ends with them: nothing but how many words each code has settles them
-  pub written : (input : List ℕ) → output input ≡ spoken fresh (linesRead input) ++ (totalLine (atEnd input .tally) ++ codeLines (wordsOf input))
+  pub unique : (words : ℕ → ℕ) (a b : List ℕ) → CodeOrder words a → CodeOrder words b → a ≡ b
+  -- the output is the answers, `T w r` and the lines of these codes, each with its number of words
+  pub written : (input codes : List ℕ) → CodeOrder (wordsOf input) codes
+      → output input ≡ spoken fresh (linesRead input) ++ (totalLine (finalState input .tally) ++ codeTexts (wordsOf input) codes)

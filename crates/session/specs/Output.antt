@@ -57,8 +57,8 @@ unfoldable pub linesRead : List ℕ → List (List ℕ)
 linesRead input = take 1000000 (linesOf input)
 
 -- the state after them
-unfoldable pub atEnd : List ℕ → State
-atEnd input = after fresh (linesRead input)
+unfoldable pub finalState : List ℕ → State
+finalState input = after fresh (linesRead input)
 
 unfoldable pub output : List ℕ → List ℕ
-output input = spoken fresh (linesRead input) ++ closing (atEnd input .tally) (atEnd input .counts)
+output input = spoken fresh (linesRead input) ++ closing (finalState input .tally) (finalState input .counts)

@@ -55,14 +55,14 @@ unfoldable pub lowestFirst : ℕ → (ℕ → ℕ) → List ℕ
 lowestFirst zero words = []
 lowestFirst (suc d) words = lowestFirst d words ++ cond (eqb (words d) 0) [] (d ∷ [])
 
--- `C dd n` of codes one after the other, n being the words of dd
-unfoldable pub linesFor : (ℕ → ℕ) → List ℕ → List ℕ
-linesFor words [] = []
-linesFor words (d ∷ codes) = codeText d (words d) ++ linesFor words codes
+-- `C dd n` for each of the codes, as they stand, n being how many words dd has
+unfoldable pub codeTexts : (ℕ → ℕ) → List ℕ → List ℕ
+codeTexts words [] = []
+codeTexts words (d ∷ codes) = codeText d (words d) ++ codeTexts words codes
 
--- the `C` lines: those of all 256 colour codes that have words, ascending (request 7 of document 02; CodeLines.antt says it of an input)
+-- the `C` lines: one for each colour code from 0 to 255 that has words, ascending (request 7 of document 02; CodeLines.antt says it of an input)
 unfoldable pub codeLines : (ℕ → ℕ) → List ℕ
-codeLines words = linesFor words (lowestFirst 256 words)
+codeLines words = codeTexts words (lowestFirst 256 words)
 
 -- `T w r`, then the `C` lines
 unfoldable pub closing : Tally → List ℕ → List ℕ

@@ -2,7 +2,8 @@
 //! folder that is named. What they are answered is what `--bin frames` prints.
 use differential::air::{Given, any_word, fields};
 use differential::lines::{
-    CODED, code, coded_word, damaged, facch, half, mask, reserved_fields, sacch, wrong_forms,
+    CODED, code, coded_word, damaged, facch, half, mask, reserved_fields, sacch, whole_word,
+    wrong_forms,
 };
 use differential::phy::facch::WordHalf;
 use differential::phy::sacch::SacchEncoder;
@@ -159,12 +160,7 @@ fn colour_codes() -> Vec<String> {
     for seed in 0..8 {
         let dvcc = code(&mut p);
         out.extend(stream(dvcc, 3, 50 + seed));
-        let word = any_word(&mut p);
-        out.push(facch(
-            dvcc,
-            &coded_word(&mut p, word, dvcc, 2),
-            &[true; CODED],
-        ));
+        out.push(whole_word(&mut p, dvcc, 2));
         out.push("D".into());
     }
     let mut last = stream(DVCC, 4, 6);
@@ -175,29 +171,23 @@ fn colour_codes() -> Vec<String> {
     out
 }
 
-/// Words under ff, then 00, then 5a, whose `C` lines come the other way round: one, three and two.
+/// One word under ff, then three under 00, then two under 5a: their `C` lines come 00, 5a, ff.
 fn three_codes() -> Vec<String> {
     let mut p = Prng(12);
-    let mut out = vec![clean_word(&mut p, 0xff)];
+    let mut out = vec![whole_word(&mut p, 0xff, 0)];
     out.extend(stream(0x00, 3, 12));
-    out.push(clean_word(&mut p, 0x00));
+    out.push(whole_word(&mut p, 0x00, 0));
     out.push("D".into());
     out.extend(stream(0x5a, 3, 13));
     out
 }
 
-/// A word under each of the 256 codes, in no order, and a second one under every seventh.
+/// A word under each of the 256 codes, scattered, and a second one under every seventh.
 fn all_codes() -> Vec<String> {
     let mut p = Prng(14);
     let mixed = |k: u8| k.wrapping_mul(141).wrapping_add(7);
     let codes = (0..=255).map(mixed).chain((0..=255).step_by(7));
-    codes.map(|dvcc| clean_word(&mut p, dvcc)).collect()
-}
-
-/// An `F` line with every bit as sent.
-fn clean_word(p: &mut Prng, dvcc: u8) -> String {
-    let word = any_word(p);
-    facch(dvcc, &coded_word(p, word, dvcc, 0), &[true; CODED])
+    codes.map(|dvcc| whole_word(&mut p, dvcc, 0)).collect()
 }
 
 /// Wrong bits in a tenth of the fields, and a fade.
@@ -252,9 +242,7 @@ fn between() -> Vec<u8> {
         out.push(line.into_bytes());
         out.extend(others.next());
         if p.below(6) == 0 {
-            let word = any_word(&mut p);
-            let coded = coded_word(&mut p, word, 0x01, 3);
-            out.push(facch(0x01, &coded, &[true; CODED]).into_bytes());
+            out.push(whole_word(&mut p, 0x01, 3).into_bytes());
         }
     }
     text_of(out)
@@ -270,9 +258,7 @@ fn three_reads() -> Vec<String> {
             let wrong = if p.below(10) == 0 { 1 + p.below(3) } else { 0 };
             out.push(sacch(dvcc, damaged(&mut p, field, wrong)));
             if at % 30 == 29 {
-                let word = any_word(&mut p);
-                let coded = coded_word(&mut p, word, dvcc, 4);
-                out.push(facch(dvcc, &coded, &[true; CODED]));
+                out.push(whole_word(&mut p, dvcc, 4));
             }
         }
         out.push("D".into());
