@@ -23,7 +23,7 @@ unfoldable pub wordsUnder : ℕ → List Replied → ℕ
 wordsUnder d [] = 0
 wordsUnder d (a ∷ rest) = cond (eqb (a .dvcc) d) (addedBy (a .reply) .words) 0 + wordsUnder d rest
 
--- those of an input
+-- and how many of the lines that are read of an input
 unfoldable pub wordsOf : List ℕ → ℕ → ℕ
 wordsOf input = λ (d : ℕ). wordsUnder d (replies freshReceiver (linesRead input))
 
