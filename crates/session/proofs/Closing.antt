@@ -70,12 +70,15 @@ module _ {counts out : List ℕ} {from : ℕ} where
   listing-none = record { most = omega arith; room = omega arith; text = put-nothing out from }
 
   module _ {d : ℕ} {out′ : List ℕ} {at : ℕ} (p : Listing counts out from d out′ at) where
-    pub listing-more : {out″ : List ℕ} {r : ℕ} → d < 256 → Put out′ at (codeLine d (getD counts d 0)) out″ r → r ≤ at + 26 → Listing counts out from (d + 1) out″ r
-    listing-more {out″} {r} h q room =
+    pub listing-more : {code : ℕ} {out″ : List ℕ} {r : ℕ} → d < 256 → code ≡ d → Put out′ at (codeLine code (getD counts code 0)) out″ r → r ≤ at + 26
+        → Listing counts out from (d + 1) out″ r
+    listing-more {code} {out″} {r} h e q room =
         record {
           most = omega arith;
           room = omega (arith, p .room);
-          text = subst (λ (l : List ℕ). Put out from l out″ r) (sym (lines-more (countOf counts) d)) (put-then (p .text) q);
+          text =
+              subst (λ (l : List ℕ). Put out from l out″ r) (sym (lines-more (countOf counts) d))
+              (put-then (p .text) (subst (λ (k : ℕ). Put out′ at (codeLine k (getD counts k 0)) out″ r) e q));
         }
 
     pub listing-room : from + 6656 ≤ length out → d < 256 → at + 26 ≤ length out′

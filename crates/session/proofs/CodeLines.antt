@@ -15,7 +15,7 @@ use Rattle.sacch_receiver.specs.declared.SacchReceiver.{SacchReceiver}
 use Rattle.session.specs.CodeLines.{CodeOrder, CodesAscending, replies, wordsOf, wordsUnder}
 use Rattle.session.specs.Output.{State, after, finalState, fresh, linesRead, next, output, spoken}
 use Rattle.session.specs.Replies.{replyTo}
-use Rattle.session.specs.Totals.{addedBy, closing, codeLines, counted, countOf, codeTexts, lowestFirst, totalLine}
+use Rattle.session.specs.Totals.{addedBy, closing, codeLines, codeTexts, countOf, counted, lowestFirst, totalLine}
 use Rattle.session.proofs.CodeOrder.{lowest-first, one-order}
 use Rattle.session.proofs.Replying.{code-below}
 
@@ -82,6 +82,12 @@ unfolding output closing codeLines
 lines-written input codes p =
     let end : List ℕ → List ℕ = λ l. spoken fresh (linesRead input) ++ (totalLine (finalState input .tally) ++ l) in
     ap (λ (words : ℕ → ℕ). end (codeLines words)) (counts-words input) ∙ ap (λ (order : List ℕ). end (codeTexts (wordsOf input) order)) (one-order (ordered input) p)
+
+-- an input ends with the lines of any other that has as many words under each code
+pub same-lines : (a b codes : List ℕ) → ((d : ℕ) → wordsOf a d ≡ wordsOf b d) → CodeOrder (wordsOf a) codes
+    → output b ≡ spoken fresh (linesRead b) ++ (totalLine (finalState b .tally) ++ codeTexts (wordsOf a) codes)
+same-lines a b codes e p =
+    rw (fun-ext e) (lines-written b codes (subst (λ (words : ℕ → ℕ). CodeOrder words codes) (fun-ext e) p))
 
 pub codes-ascending : CodesAscending
 codes-ascending =

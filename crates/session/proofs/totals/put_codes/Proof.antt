@@ -38,7 +38,7 @@ loop-again c =
     let at-put-line = c .before .before in
     let at-loop-test = at-put-line .before .before .before in
     let at = at-loop-test .before in
-    listing-more (at .loop .inv) (at-loop-test .loop-test .taken) (at-put-line .put-line .ensures .0) (at-put-line .put-line .ensures .1)
+    listing-more (at .loop .inv) (at-loop-test .loop-test .taken) (omega arith) (at-put-line .put-line .ensures .0) (at-put-line .put-line .ensures .1)
 
 same-length : tie.Need-same-length Inv-loop μ-loop
 same-length c = search needs
