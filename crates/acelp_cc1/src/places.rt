@@ -65,5 +65,5 @@ pub fn copy_end(from: &[u8], start: usize, to: &mut [u8], at: usize)
     requires { (start ≤ length from.now) × (at ≤ length to.old) × (length from.now - start ≡ length to.old - at) }
     ensures { to.new ≡ take at to.old ++ drop start from.now }
 {
-    bytes::copy(&from[start..], &mut to[at..]);
+    to[at..].copy_from_slice(&from[start..]);
 }

@@ -1,5 +1,7 @@
 // The slot order of ACELP CC1 (TIA/EIA-136-410 4.4). The contracts cite specs/.
 // Ported from 136-bts, acelp_cc1.rs, and changed (see NOTICE).
+#![tactic(auto)]
+
 ghost use Rattle.std.specs.Prelude.{◌≡◌, ◌-◌, ◌<◌, length};
 ghost use Rattle.acelp_interleaver.specs.Wire.{DeinterleavingCall, InterleavingCall, age_of, deinterleaved, interleaved, place_at, table};
 
@@ -7,7 +9,7 @@ use bits::Wrote;
 use bits::arguments::{Arguments, bits_and_room};
 
 // Over how many slots a frame is spread.
-#[derive(Drop)]
+#[derive(Clone, Copy)]
 pub enum Interleaving {
     One,
     Two,

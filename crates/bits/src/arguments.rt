@@ -5,7 +5,7 @@ ghost use Rattle.bits.specs.Arguments.{below_of, binary_of, bits_and_room, exact
 
 use crate::{Refusal, all_below};
 
-#[derive(Drop)]
+#[derive(Clone, Copy)]
 pub enum Arguments {
     Passed,
     Refused(Refusal),

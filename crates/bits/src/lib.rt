@@ -1,5 +1,7 @@
 // Bits as bytes 0 and 1, numbers as bits, and the refusals that every crate answers with. The contracts cite specs/.
 // What a call tests first is in `arguments`, bits of which some were not observed in `observed`, document 01's numbers in `refusals`.
+#![tactic(auto)]
+
 pub mod arguments;
 pub mod observed;
 pub mod refusals;
@@ -9,7 +11,7 @@ ghost use Rattle.bits.specs.Bits.{all_below, all_binary, bit, bits, bytes, disag
 ghost use Rattle.bits.specs.Numbers.{packed, unpacked};
 
 // Why a call is refused. `refusals::number` gives document 01's number of each.
-#[derive(Drop)]
+#[derive(Clone, Copy)]
 pub enum Refusal {
     // A lent slice is not of the exact length.
     Length { expected: usize, actual: usize },
@@ -24,7 +26,7 @@ pub enum Refusal {
 }
 
 // What a call that writes bits answers.
-#[derive(Drop)]
+#[derive(Clone, Copy)]
 pub enum Wrote {
     Done,
     Refused(Refusal),

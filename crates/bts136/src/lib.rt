@@ -1,5 +1,7 @@
 // The static library for Rust and C. Each function hands a call on to a flat function of a crate below, whose contract it repeats: a wrong program of one
 // codec's flat functions then checks that codec's alone.
+#![tactic(auto)]
+
 mod blocks;
 mod frames;
 mod streams;

@@ -8,7 +8,7 @@ use std::num::wrapping_add_u32;
 // What a room holds before a call: no bit, so that a byte that was not written is seen.
 pub const UNTOUCHED: u8 = 9;
 
-#[derive(Drop)]
+#[derive(Clone, Copy)]
 pub enum Kind {
     // A line that is no call.
     Unknown,
@@ -25,7 +25,7 @@ pub enum Kind {
 }
 
 // The first numbers of values are the answer's; a refusal is its number and two lengths.
-#[derive(Drop)]
+#[derive(Clone, Copy)]
 pub struct Answer {
     pub kind: Kind,
     pub count: usize,
@@ -197,7 +197,7 @@ pub fn room(bytes: &[u8])
 }
 
 // Of the turns of a line, how many were answered, refused by each number, and left the rooms as they were.
-#[derive(Drop)]
+#[derive(Clone, Copy)]
 pub struct Tally {
     pub answered: u32,
     pub refused: [u32; 9],

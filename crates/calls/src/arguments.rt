@@ -7,7 +7,7 @@ use std::num::wrapping_add_usize;
 use text::has_shape;
 
 // How many of each there are, and how long the slices are.
-#[derive(Drop)]
+#[derive(Clone, Copy)]
 pub struct Given {
     pub numbers: usize,
     pub inputs: usize,

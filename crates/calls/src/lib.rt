@@ -1,3 +1,5 @@
 // Stored calls as lines: the arguments of a line, and the answers that are printed.
+#![tactic(auto)]
+
 pub mod answers;
 pub mod arguments;

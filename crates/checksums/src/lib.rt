@@ -1,5 +1,7 @@
 // The 16-bit checksum of DCCH, FACCH and SACCH, and the 7-bit one of the speech frames.
 // Ported from 136-bts, dcch.rs and acelp_cc1.rs, and changed (see NOTICE).
+#![tactic(auto)]
+
 ghost use Rattle.std.specs.Prelude.{◌≡◌, true, [], ◌∷◌, ℕ, ◌+◌, ◌<◌, ◌≤◌, length};
 ghost use Rattle.bits.specs.Bits.{all_binary, bit, bits};
 ghost use Rattle.bits.specs.Numbers.{packed, unpacked};
@@ -20,7 +22,7 @@ const CCITT: u16 = 0x1021;
 // x^7 + x^5 + x^4 + x^2 + x + 1, the coefficients below the highest.
 const SPEECH: u16 = 0x37;
 
-#[derive(Drop)]
+#[derive(Clone, Copy)]
 pub enum Checked {
     Value(u16),
     Refused(Refusal),

@@ -13,7 +13,7 @@ pub const G0: u8 = 0o65;
 
 pub const G1: u8 = 0o57;
 
-#[derive(Drop)]
+#[derive(Clone, Copy)]
 pub struct Step {
     pub next: u8,
     pub output: [u8; 2],

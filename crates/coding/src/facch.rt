@@ -26,7 +26,7 @@ pub const LOW_G2: u8 = 0b101111;
 
 pub const LOW_G3: u8 = 0b110101;
 
-#[derive(Drop)]
+#[derive(Clone, Copy)]
 pub struct Step {
     pub next: u8,
     pub output: [u8; 4],

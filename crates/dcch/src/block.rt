@@ -12,7 +12,7 @@ use coding::dcch::convolutional_encode;
 use dcch_interleaver::{BlockFormat, deinterleave, interleave};
 
 // What decoding a block answers: the number of corrected bits, or a refusal.
-#[derive(Drop)]
+#[derive(Clone, Copy)]
 pub enum Decoded {
     Accepted(u16),
     Refused(Refusal),
@@ -24,7 +24,7 @@ fn fill_inputs(information: &[u8], checksum: u16, inputs: &mut [u8])
     ensures { inputs.new ≡ bytes (inputs_of (bits information.now) checksum) }
 {
     let n = information.len();
-    bytes::copy(information, inputs);
+    inputs.copy_from_slice(information);
     unpack(checksum as u64, &mut inputs[n..n + 16]);
 }
 
@@ -59,7 +59,7 @@ pub fn finish(
     if !right {
         return Decoded::Refused(Refusal::Crc);
     }
-    bytes::copy(&inputs[..n], information);
+    information.copy_from_slice(&inputs[..n]);
     Decoded::Accepted(corrected)
 }
 

@@ -8,7 +8,7 @@ use bits::{Refusal, all_binary};
 use checksums::{Checked, checksum_under};
 
 // Whether the checksum is sent as it is or complemented (F-BCCH).
-#[derive(Drop)]
+#[derive(Clone, Copy)]
 pub enum CrcMode {
     Broadcast,
     Addressed,

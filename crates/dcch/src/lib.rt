@@ -1,4 +1,6 @@
 // DCCH blocks (IS-136.1-A 4.4.3 and 5.2.6). Ported from 136-bts, dcch.rs (see NOTICE). The contracts cite specs/.
+#![tactic(auto)]
+
 mod block;
 mod crc;
 mod soft_block;

@@ -1,4 +1,6 @@
 // The formats of a DCCH block and the interleaver (IS-136.1-A 4.4.3). Ported from 136-bts, dcch.rs (see NOTICE). The contracts cite specs/.
+#![tactic(auto)]
+
 mod wire;
 
 ghost use Rattle.std.specs.Prelude.{◌≡◌};
@@ -6,7 +8,7 @@ ghost use Rattle.dcch_interleaver.specs.Formats.{encoded_bits, information_bits,
 
 pub use wire::{deinterleave, deinterleave_soft, interleave};
 
-#[derive(Drop)]
+#[derive(Clone, Copy)]
 pub enum BlockFormat {
     Forward,
     ReverseNormal,

@@ -1,4 +1,6 @@
 // FACCH words (IS-54-B 2.7.3.1.1). Ported from 136-bts, facch.rs (see NOTICE). The contracts cite specs/.
+#![tactic(auto)]
+
 mod decoding;
 mod search;
 mod word;
@@ -9,7 +11,7 @@ pub use decoding::{decode, decode_erased};
 pub use facch_interleaver::{WordHalf, deinterleave, interleave, observe_half};
 
 // What decoding a word answers: the word's content with its corrected and its observed bits, or a refusal.
-#[derive(Drop)]
+#[derive(Clone, Copy)]
 pub enum Decoded {
     Accepted {
         continuation: bool,

@@ -12,8 +12,8 @@ fn rotate(inputs: &[u8], word: &mut [u8])
     requires { (length inputs.now ≡ 65) × (length word.old ≡ 65) }
     ensures { word.new ≡ drop 60 inputs.now ++ take 60 inputs.now }
 {
-    bytes::copy(&inputs[60..65], word);
-    bytes::copy(&inputs[..60], &mut word[5..65]);
+    word.copy_from_slice(&inputs[60..65]);
+    word[5..65].copy_from_slice(&inputs[..60]);
 }
 
 // Writes a nearest word.

@@ -1,5 +1,7 @@
 // The slot order (IS-54-B Table 2.7.3.1.1.2-1): a slot carries half of the word before and half of its own.
 // Ported from 136-bts, facch.rs, and changed (see NOTICE).
+#![tactic(auto)]
+
 ghost use Rattle.std.specs.Prelude.{◌≡◌, ◌/◌, ◌%◌, ◌<◌, get_or, length};
 ghost use Rattle.interleaving.specs.Slots.{by_row};
 ghost use Rattle.facch_interleaver.specs.Wire.{Deinterleaving, Interleaving, Observing, Spread, deinterleaved, interleaved, observed, parity_of, place_of};
@@ -8,7 +10,7 @@ use bits::Wrote;
 use bits::arguments::{Arguments, bits_and_room, two_and_room};
 
 // The half of a word that a slot carries: its odd rows start a word, its even rows end one.
-#[derive(Drop)]
+#[derive(Clone, Copy)]
 pub enum WordHalf {
     Start,
     End,
@@ -135,7 +137,7 @@ fn spread_half(slot: &[u8], half: WordHalf, coded: &mut [u8])
     ensures { coded.new ≡ observed half slot.now }
 {
     let unread = [2u8; 260];
-    bytes::copy(&unread, coded);
+    coded.copy_from_slice(&unread);
     spread_rows(parity_of(half), slot, coded);
 }
 

@@ -8,7 +8,7 @@ use bits::{Refusal, Wrote};
 
 // expected and actual are those of a refusal for length.
 #[repr(C)]
-#[derive(Drop)]
+#[derive(Clone, Copy)]
 pub struct Written {
     pub refusal: u8,
     pub expected: usize,

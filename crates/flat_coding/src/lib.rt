@@ -1,4 +1,6 @@
 // Flat functions over `coding` and `checksums`: one step of each code, the register of the 16-bit checksum and the 7-bit checksum; `search` has the bare searches, `calls` the record of a call that writes bits. Each answers a number of document 01, or 0 with its result.
+#![tactic(auto)]
+
 pub mod calls;
 pub mod search;
 
@@ -15,7 +17,7 @@ use bits::refusals::number;
 use checksums::Checked;
 
 #[repr(C)]
-#[derive(Drop)]
+#[derive(Clone, Copy)]
 pub struct Step {
     pub refusal: u8,
     pub next: u8,
@@ -23,7 +25,7 @@ pub struct Step {
 }
 
 #[repr(C)]
-#[derive(Drop)]
+#[derive(Clone, Copy)]
 pub struct Checksum {
     pub refusal: u8,
     pub value: u16,

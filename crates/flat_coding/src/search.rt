@@ -12,7 +12,7 @@ use bits::arguments::{Arguments, exact, first_refusal, then_bits};
 
 // expected and actual are those of a refusal for length.
 #[repr(C)]
-#[derive(Drop)]
+#[derive(Clone, Copy)]
 pub struct Search {
     pub refusal: u8,
     pub expected: usize,

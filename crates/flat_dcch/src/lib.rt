@@ -1,4 +1,6 @@
 // Flat functions over `dcch`: the checksum, and one function for each format, since C has no enum of ours. Each answers a number of document 01, or 0 with its result.
+#![tactic(auto)]
+
 ghost use Rattle.std.specs.Prelude.{◌≡◌};
 ghost use Rattle.bits.specs.Bits.{bits};
 ghost use Rattle.checksums.specs.Checksums.{answer_for_bits};
@@ -16,7 +18,7 @@ use flat_coding::{Checksum, flat_checksum};
 
 // corrected is that of an accepted decoding; expected and actual are those of a refusal for length.
 #[repr(C)]
-#[derive(Drop)]
+#[derive(Clone, Copy)]
 pub struct Block {
     pub refusal: u8,
     pub expected: usize,

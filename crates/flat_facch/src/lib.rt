@@ -1,4 +1,6 @@
 // Flat functions over `facch`: words and the slots that carry them. Each answers a number of document 01, or 0 with its result.
+#![tactic(auto)]
+
 ghost use Rattle.std.specs.Prelude.{◌≡◌};
 ghost use Rattle.bits.specs.Refusals.{refused};
 ghost use Rattle.facch.specs.Decoding.{decode_answer, decode_arguments, decoding, erased_arguments};
@@ -44,7 +46,7 @@ pub fn observe_end(slot: &[u8], coded: &mut [u8]) -> Written
 
 // What is beside the refusal is that of an accepted word; expected and actual are those of a refusal for length.
 #[repr(C)]
-#[derive(Drop)]
+#[derive(Clone, Copy)]
 pub struct Word {
     pub refusal: u8,
     pub expected: usize,

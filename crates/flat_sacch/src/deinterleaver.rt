@@ -8,7 +8,7 @@ use sacch::{RowOutcome, SacchDeinterleaver};
 
 // An answer of a push and the deinterleaver after it. Complete says that the field completed a row; else row is 0.
 #[repr(C)]
-#[derive(Drop)]
+#[derive(Clone, Copy)]
 pub struct Row {
     pub refusal: u8,
     pub complete: bool,

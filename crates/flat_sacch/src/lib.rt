@@ -1,4 +1,6 @@
 // Flat functions over `sacch`. Each answers a number of document 01, or 0 with its result.
+#![tactic(auto)]
+
 mod deinterleaver;
 mod receiver;
 
@@ -18,7 +20,7 @@ use sacch::{Decoded, SacchEncoder};
 
 // One field, 0 where the call is refused; then the encoder is the one that was given.
 #[repr(C)]
-#[derive(Drop)]
+#[derive(Clone, Copy)]
 pub struct Field {
     pub refusal: u8,
     pub encoder: SacchEncoder,
@@ -26,7 +28,7 @@ pub struct Field {
 }
 
 #[repr(C)]
-#[derive(Drop)]
+#[derive(Clone, Copy)]
 pub struct Fields {
     pub refusal: u8,
     pub encoder: SacchEncoder,
@@ -35,7 +37,7 @@ pub struct Fields {
 
 // What is beside the refusal is that of an accepted word; expected and actual are those of a refusal for length.
 #[repr(C)]
-#[derive(Drop)]
+#[derive(Clone, Copy)]
 pub struct Word {
     pub refusal: u8,
     pub expected: usize,

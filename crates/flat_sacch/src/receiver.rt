@@ -10,7 +10,7 @@ use sacch::{Heard, Lock, ReceiveOutcome, SacchReceiver};
 const UNLOCKED: u8 = 255;
 
 #[repr(C)]
-#[derive(Drop)]
+#[derive(Clone, Copy)]
 pub struct Receiver {
     pub fields: [u16; 12],
     pub field_cursor: usize,
@@ -25,7 +25,7 @@ pub struct Receiver {
 
 // An answer of a push and the receiver after it: kind 0 is Pending, 1 a word, 2 a rejection, 3 a refusal. Refusal is the number of the last two.
 #[repr(C)]
-#[derive(Drop)]
+#[derive(Clone, Copy)]
 pub struct Pushed {
     pub kind: u8,
     pub refusal: u8,

@@ -1,4 +1,6 @@
 // Flat functions over the speech frames of VSELP (`speech`) and ACELP CC1. Each answers a number of document 01, or 0 with its result.
+#![tactic(auto)]
+
 ghost use Rattle.std.specs.Prelude.{◌≡◌};
 ghost use Rattle.acelp_cc1.specs.Calls as acelp_calls;
 ghost use Rattle.acelp_interleaver.specs.Wire as acelp_wire;
@@ -15,7 +17,7 @@ use speech::CrcStatus;
 
 // valid and corrected are those of an accepted frame; expected and actual those of a refusal for length.
 #[repr(C)]
-#[derive(Drop)]
+#[derive(Clone, Copy)]
 pub struct Frame {
     pub refusal: u8,
     pub expected: usize,

@@ -1,5 +1,7 @@
 // Reads lines of channel words from standard input, and writes an answer to each and the totals (document 01, 'The line program `frames`').
 // What it writes for an input is `output` of session/specs/Output.antt; specs/Turns.antt has the run that comes to it.
+#![tactic(auto)]
+
 mod streams;
 
 ghost use Rattle.std.specs.Prelude.{◌≡◌, length, replicate};
@@ -14,7 +16,7 @@ use session::pieces::feed;
 use session::{Session, finish, start};
 
 // One read, and the write of its answers.
-#[derive(Drop)]
+#[derive(Clone, Copy)]
 struct Turn {
     session: Session,
     got: Got,
@@ -23,7 +25,7 @@ struct Turn {
 }
 
 // All that the program did.
-#[derive(Drop)]
+#[derive(Clone, Copy)]
 struct Outcome {
     last: Turn,
     totals: Sent,

@@ -6,7 +6,7 @@ ghost use Rattle.frames.specs.Streams.{FirstSent, Message, Received, Told, compl
 use libc::STDERR_FILENO;
 
 // What a read from a descriptor answered: -1, or how many bytes it put at the start of the buffer; and how many of the buffer count as read.
-#[derive(Drop)]
+#[derive(Clone, Copy)]
 pub struct Got {
     from: i32,
     answer: isize,
@@ -14,7 +14,7 @@ pub struct Got {
 }
 
 // What a descriptor was handed: so many bytes of a buffer, from the first on; and whether it took all of them.
-#[derive(Drop)]
+#[derive(Clone, Copy)]
 pub struct Sent {
     to: i32,
     bytes: usize,
@@ -22,7 +22,7 @@ pub struct Sent {
 }
 
 // What comes after a read and the write of its answers.
-#[derive(Drop)]
+#[derive(Clone, Copy)]
 pub enum Next {
     Read,
     Finish,

@@ -8,7 +8,7 @@ use text::kind::{LineKind, line_kind};
 use text::{digit, has_shape, two};
 
 // What a line asks for.
-#[derive(Drop)]
+#[derive(Clone, Copy)]
 pub enum Command {
     // Nothing: the line is skipped.
     Blank,

@@ -10,7 +10,7 @@ use bits::refusals::number;
 use text::numerals::{put, put_decimal, put_hexadecimal, put_two};
 
 // What a line is answered.
-#[derive(Drop)]
+#[derive(Clone, Copy)]
 pub enum Reply {
     Nothing,
     // `P`

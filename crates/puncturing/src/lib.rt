@@ -1,5 +1,7 @@
 // The search of ACELP CC1's punctured code: specs/Punctured.antt says what it finds. An internal layer.
 // Ported from 136-bts, acelp_cc1.rs, and changed (see NOTICE).
+#![tactic(auto)]
+
 ghost use Rattle.std.specs.Prelude.{true, ◌≡◌, ◌<◌, length};
 ghost use Rattle.bits.specs.Bits.{all_binary, bits};
 ghost use Rattle.trellis.specs.Search.{FoundFirst};

@@ -7,7 +7,7 @@ use calls::arguments::{Given, find, read};
 use text::has_shape;
 
 // What came of a turn of a line.
-#[derive(Drop)]
+#[derive(Clone, Copy)]
 pub struct Outcome {
     pub answer: Answer,
     pub untouched: bool,

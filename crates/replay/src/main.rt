@@ -1,6 +1,8 @@
 // Answers stored calls, one a line of standard input: `MODULE CALL ARGUMENTS`. Each answer is a line: what the call said, and what became of the rooms that it was
 // lent or of the record that it was given. A line with `//` in front is copied, and one that is no call is printed behind a question mark. The stored output is
 // what the original Rust answers to the same lines.
+#![tactic(auto)]
+
 mod dcch_blocks;
 mod facch_words;
 mod lending;

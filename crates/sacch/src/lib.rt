@@ -1,4 +1,6 @@
 // SACCH (IS-54-B 2.7.3.1.2): the calls of encoder, decoder, deinterleaver and receiver. What holds of them together, the listening rule first, is in specs/.
+#![tactic(auto)]
+
 pub use bits::{Refusal, Wrote};
 pub use sacch_decoder::{Decoded, SacchWord, decode};
 pub use sacch_encoder::{EncodedField, EncodedWord, SacchEncoder};

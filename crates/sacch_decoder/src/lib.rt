@@ -1,5 +1,7 @@
 // Decoding of SACCH words (IS-54-B 2.7.3.1.2). The contracts cite specs/.
 // Ported from 136-bts, sacch.rs, and changed (see NOTICE).
+#![tactic(auto)]
+
 ghost use Rattle.std.specs.Prelude.{cond, true, reverse, ◌≡◌, length, take};
 ghost use Rattle.bits.specs.Bits.{all_binary, bits};
 ghost use Rattle.bits.specs.Numbers.{packed};
@@ -12,7 +14,7 @@ use bits::{Refusal, pack};
 use trellis::Outcome;
 
 // A decoded word.
-#[derive(Drop)]
+#[derive(Clone, Copy)]
 pub struct SacchWord {
     pub continuation: bool,
     // 48 bits, the first highest.
@@ -24,7 +26,7 @@ pub struct SacchWord {
 }
 
 // What decoding answers.
-#[derive(Drop)]
+#[derive(Clone, Copy)]
 pub enum Decoded {
     Accepted(SacchWord),
     Refused(Refusal),

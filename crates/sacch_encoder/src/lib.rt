@@ -1,5 +1,7 @@
 // The SACCH encoder (IS-54-B 2.7.3.1.2). The contracts cite specs/.
 // Ported from 136-bts, sacch.rs, and changed (see NOTICE).
+#![tactic(auto)]
+
 mod encoder;
 mod word;
 
@@ -7,7 +9,7 @@ use bits::Wrote;
 
 // The coder's memory and the rows of the last twelve slots. Rows are sent over twelve slots, so some of their bits are still to send.
 #[repr(C)]
-#[derive(Drop)]
+#[derive(Clone, Copy)]
 pub struct SacchEncoder {
     pub memory: u8,
     pub rows: [u16; 12],
@@ -16,7 +18,7 @@ pub struct SacchEncoder {
 }
 
 // What `encode_bits` answers: one field, 0 where the call is refused.
-#[derive(Drop)]
+#[derive(Clone, Copy)]
 pub struct EncodedField {
     pub outcome: Wrote,
     pub encoder: SacchEncoder,
@@ -24,7 +26,7 @@ pub struct EncodedField {
 }
 
 // What `encode_word` answers: eleven fields, zeros where the call is refused.
-#[derive(Drop)]
+#[derive(Clone, Copy)]
 pub struct EncodedWord {
     pub outcome: Wrote,
     pub encoder: SacchEncoder,

@@ -10,7 +10,7 @@ use coding::dcch::transition;
 use sacch_interleaver::field_among;
 
 // Six inputs coded: their row, and the memory after them.
-#[derive(Drop)]
+#[derive(Clone, Copy)]
 pub struct Coded {
     pub row: u16,
     pub memory: u8,

@@ -1,5 +1,7 @@
 // The diagonal interleaver of SACCH (IS-54-B 2.7.3.1.2.1) over packed rows and fields, and its deinterleaver. The contracts cite specs/.
 // Ported from 136-bts, sacch.rs, and changed (see NOTICE).
+#![tactic(auto)]
+
 mod deinterleaver;
 
 ghost use Rattle.std.specs.Prelude.{◌≡◌, ◌+◌, ◌%◌, ◌^◌, ◌<◌, ◌≤◌, length};
@@ -10,7 +12,7 @@ pub use deinterleaver::{one_more, row_found, with_field};
 
 // The last twelve fields.
 #[repr(C)]
-#[derive(Drop)]
+#[derive(Clone, Copy)]
 pub struct SacchDeinterleaver {
     pub fields: [u16; 12],
     // The place of the oldest field.
@@ -20,7 +22,7 @@ pub struct SacchDeinterleaver {
 }
 
 // What a push answers: the row that the newest of twelve fields completes, or nothing yet.
-#[derive(Drop)]
+#[derive(Clone, Copy)]
 pub enum RowOutcome {
     Pending,
     Row(u16),
@@ -28,7 +30,7 @@ pub enum RowOutcome {
 }
 
 // An answer, with the deinterleaver after it.
-#[derive(Drop)]
+#[derive(Clone, Copy)]
 pub struct PushedRow {
     pub outcome: RowOutcome,
     pub deinterleaver: SacchDeinterleaver,

@@ -1,5 +1,7 @@
 // The SACCH receiver (IS-54-B 2.7.3.1.2): fields into rows, rows into words. The contracts cite specs/.
 // Ported from 136-bts, sacch.rs, and changed (see NOTICE).
+#![tactic(auto)]
+
 mod receiver;
 mod state;
 mod stored;
@@ -9,7 +11,7 @@ use bits::Refusal;
 use sacch_decoder::SacchWord;
 
 // The last twelve fields and the last eleven rows, each packed with the first bit highest.
-#[derive(Drop)]
+#[derive(Clone, Copy)]
 pub struct SacchReceiver {
     pub fields: [u16; 12],
     // The place of the oldest field.
@@ -27,7 +29,7 @@ pub struct SacchReceiver {
 }
 
 // What a push answers. A rejection is no refusal: the receiver has moved.
-#[derive(Drop)]
+#[derive(Clone, Copy)]
 pub enum ReceiveOutcome {
     Pending,
     Word(SacchWord),
@@ -36,21 +38,21 @@ pub enum ReceiveOutcome {
 }
 
 // An answer, with the receiver after it.
-#[derive(Drop)]
+#[derive(Clone, Copy)]
 pub struct Pushed {
     pub outcome: ReceiveOutcome,
     pub receiver: SacchReceiver,
 }
 
 // What `push` answers: rejections and Pending alike are nothing.
-#[derive(Drop)]
+#[derive(Clone, Copy)]
 pub enum Heard {
     Nothing,
     Word(SacchWord),
     Refused(Refusal),
 }
 
-#[derive(Drop)]
+#[derive(Clone, Copy)]
 pub struct PushedWord {
     pub heard: Heard,
     pub receiver: SacchReceiver,

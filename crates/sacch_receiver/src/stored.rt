@@ -7,7 +7,7 @@ pub use state::{lock_fits, lock_tries};
 pub use window::decode_window;
 
 // Whether words begin at a known phase: then only that phase is tried. A byte holds it, so that the lock has no padding, which costs at every move.
-#[derive(Drop)]
+#[derive(Clone, Copy)]
 pub enum Lock {
     Unlocked,
     Locked(u8),

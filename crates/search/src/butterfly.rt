@@ -5,7 +5,7 @@ ghost use Rattle.search.specs.Butterfly.{Advanced, Fit};
 use crate::select::{lesser, predecessor_byte};
 
 // The metrics after a step, and the predecessor byte of each state: the predecessor, and 96 more where both cost the same.
-#[derive(Drop)]
+#[derive(Clone, Copy)]
 pub struct Column {
     pub metrics: [u16; 32],
     pub predecessors: [u8; 32],

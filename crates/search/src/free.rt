@@ -11,7 +11,7 @@ use crate::traceback::traceback;
 use trellis::Outcome;
 
 // The least metric, the state that has it, and whether another state has it too.
-#[derive(Drop)]
+#[derive(Clone, Copy)]
 pub struct End {
     pub metric: u16,
     pub shared: bool,

@@ -1,5 +1,7 @@
 // The searches for the nearest word (trellis/specs/Search.antt says what one finds): between two states, and over all of them.
 // Their parts: the layout of a row of branch metrics, compare and select, one step over 32 states, the forward recursion, the traceback.
+#![tactic(auto)]
+
 mod between;
 mod butterfly;
 pub mod forward;

@@ -1,5 +1,7 @@
 // A run of the program `frames` between its reads and writes: a line answered and counted where it ends, and the closing lines.
 // specs/Output.antt has what is written for a whole input, as one definition.
+#![tactic(auto)]
+
 pub mod pieces;
 mod replies;
 mod totals;
@@ -14,7 +16,7 @@ use lines::reply::put_reply;
 use sacch::SacchReceiver;
 
 // All that goes from one piece of the input to the next, but for two lent buffers: the line so far, and how many words each colour code has.
-#[derive(Drop)]
+#[derive(Clone, Copy)]
 pub struct Session {
     // How many lines may still be read.
     pub left: u32,
@@ -25,7 +27,7 @@ pub struct Session {
 }
 
 // A session, and the place after what was written.
-#[derive(Drop)]
+#[derive(Clone, Copy)]
 pub struct Fed {
     pub session: Session,
     pub at: usize,

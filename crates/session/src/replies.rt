@@ -13,7 +13,7 @@ use lines::reply::Reply;
 use sacch::{ReceiveOutcome, SacchReceiver};
 
 // What a line is answered, the receiver after it, and the colour code on it.
-#[derive(Drop)]
+#[derive(Clone, Copy)]
 pub struct Replied {
     pub receiver: SacchReceiver,
     pub dvcc: u8,

@@ -6,7 +6,7 @@ ghost use Rattle.session.specs.Totals.{OneAnswer, added_by, closing, code_line, 
 use lines::reply::{Reply, put_code, put_total};
 
 // Accepted words, their corrected bits and their coded bits.
-#[derive(Drop)]
+#[derive(Clone, Copy)]
 pub struct Tally {
     pub words: u64,
     pub corrected: u64,

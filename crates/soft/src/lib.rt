@@ -1,5 +1,7 @@
 // Ported from 136-bts, dcch.rs (see NOTICE): `viterbi_soft`, and the tests and the count of `decode_soft`.
 // The soft-decision search of the DCCH code over doubles: specs/Soft.antt says what it finds.
+#![tactic(auto)]
+
 mod reliability;
 mod step;
 

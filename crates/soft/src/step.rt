@@ -11,7 +11,7 @@ use coding::dcch::{G0, G1};
 use coding::register::parity;
 
 // The path metrics after a step, and a predecessor byte for each state.
-#[derive(Drop)]
+#[derive(Clone, Copy)]
 pub struct Column {
     pub metrics: [f64; 32],
     pub predecessors: [u8; 32],
@@ -19,7 +19,7 @@ pub struct Column {
 
 // The branch metrics from the states 2 n, with a zero and with a one. Flipping the oldest input complements both outputs as
 // flipping the newest does, so those from 2 n + 1 are the same two, exchanged.
-#[derive(Drop)]
+#[derive(Clone, Copy)]
 pub struct Branches {
     pub zeros: [f64; 16],
     pub ones: [f64; 16],

@@ -1,5 +1,7 @@
 // The slot order of VSELP (IS-54-B 2.1.3.3.4). The contracts cite specs/.
 // Ported from 136-bts, speech.rs, and changed (see NOTICE).
+#![tactic(auto)]
+
 ghost use Rattle.std.specs.Prelude.{◌≡◌, ◌/◌, ◌%◌, ◌<◌, get_or, length};
 ghost use Rattle.speech_interleaver.specs.Rows.{Row};
 ghost use Rattle.speech_interleaver.specs.Wire.{Deinterleaving, Interleaving, deinterleaved, interleaved, place_at, wire_of};

@@ -1,1 +1,2 @@
 // Laws of the speech codecs that no function of their crates needs. There is no code here.
+#![tactic(auto)]

@@ -1,5 +1,7 @@
 // Ported from 136-bts, facch.rs, and changed (see NOTICE).
 // The tail-biting search of the FACCH code, with unobserved bits: specs/TailBiting.antt says what it finds.
+#![tactic(auto)]
+
 mod rows;
 mod starts;
 

@@ -42,7 +42,7 @@ fn better(best: Outcome, run: Outcome, word: &[u8], inputs: &mut [u8]) -> Outcom
     ensures { (result ≡ better_of best run) × (inputs.new ≡ kept_of best run word.now inputs.old) }
 {
     if run.metric < best.metric {
-        bytes::copy(word, inputs);
+        inputs.copy_from_slice(word);
         return run;
     }
     if best.metric < run.metric {

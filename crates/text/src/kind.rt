@@ -2,7 +2,7 @@
 ghost use Rattle.std.specs.Prelude.{◌≡◌};
 ghost use Rattle.text.specs.LineKinds.{blank, kind_of};
 
-#[derive(Drop)]
+#[derive(Clone, Copy)]
 pub enum LineKind {
     // More than 136 characters, whatever they are.
     TooLong,

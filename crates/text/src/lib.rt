@@ -1,4 +1,6 @@
 // Characters of a line: digits, shapes, and where a line ends.
+#![tactic(auto)]
+
 pub mod kind;
 pub mod numerals;
 

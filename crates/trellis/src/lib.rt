@@ -1,7 +1,8 @@
 // The theory of the search for the nearest word: specs/Search.antt says what a search finds. The crates above search.
+#![tactic(auto)]
 
 // The least metric, and whether another word has it too.
-#[derive(Drop)]
+#[derive(Clone, Copy)]
 pub struct Outcome {
     pub metric: u16,
     pub tie: bool,

@@ -1,5 +1,7 @@
 // Hard-decision searches of the code of DCCH, SACCH and VSELP: specs/Hard.antt says what they find.
 // Ported from 136-bts (see NOTICE): `viterbi` of dcch.rs and the searches of sacch.rs and speech.rs, as one.
+#![tactic(auto)]
+
 ghost use Rattle.std.specs.Prelude.{true, ◌≡◌, ◌*◌, ◌<◌, ◌≤◌, length};
 ghost use Rattle.bits.specs.Bits.{all_binary, bit, bits};
 ghost use Rattle.coding.specs.Codes.{dcch};

@@ -1,5 +1,7 @@
 // The words of FACCH and SACCH (IS-54-B 2.7.3.1.1 and 2.7.3.1.2). The contracts cite specs/.
 // Ported from 136-bts, facch.rs and sacch.rs, and changed (see NOTICE).
+#![tactic(auto)]
+
 ghost use Rattle.std.specs.Prelude.{true, ◌≡◌, ◌+◌, ◌≤◌, length, take};
 ghost use Rattle.bits.specs.Bits.{all_binary, bits, bytes};
 ghost use Rattle.words.specs.Words.{made_of, message_in, word_valid};

@@ -5,7 +5,7 @@ ghost use Rattle.std.specs.Prelude.{◌≤◌, length};
 use std::num::{wrapping_add_usize, wrapping_sub_usize};
 use text::digit;
 
-#[derive(Drop)]
+#[derive(Clone, Copy)]
 pub struct Filled {
     pub length: usize,
     pub turns: usize,
