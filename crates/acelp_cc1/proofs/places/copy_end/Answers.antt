@@ -1,0 +1,7 @@
+-- `acelp_cc1::places::copy_end` meets its contract. Assumes nothing.
+use Rattle.acelp_cc1.proofs.Parts.{copied_end}
+use Rattle.acelp_cc1.proofs.places.copy_end.Goals as goal
+
+pub returns : goal.returns
+returns c =
+    copied_end c.args.from.now c.args.to.now _ _ c.requires.2 c.copy.ensures.1

@@ -1,0 +1,10 @@
+-- `bits::all_below` meets its contract: the bytes passed were tested. Assumes nothing.
+use mathlib.Core.Path.{◌≡◌}
+use Prim.Native.Nat.{◌-◌}
+use lib.ListN.{length}
+use Rattle.bits.specs.Bits.{all_below}
+use Rattle.bits.proofs.Passing.{Testing}
+use Rattle.bits.proofs.all_below.Given as goal
+
+abbrev pub invariant-loop-i : goal.invariant-loop-i
+invariant-loop-i l = (l.i-end ≡ length l.s) × Testing (all_below l.limit) l.s l.passed l.i

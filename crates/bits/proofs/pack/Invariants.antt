@@ -1,0 +1,9 @@
+-- `bits::pack` meets its contract: the value is the number that the bits passed write. Assumes nothing.
+use mathlib.Core.Path.{◌≡◌}
+use Prim.Native.Nat.{◌-◌}
+use lib.ListN.{length}
+use Rattle.bits.proofs.Packed.{Packing}
+use Rattle.bits.proofs.pack.Given as goal
+
+abbrev pub invariant-loop-i : goal.invariant-loop-i
+invariant-loop-i l = (l.i-end ≡ length l.s) × Packing l.s l.value l.i

@@ -1,0 +1,12 @@
+-- `checksums::checksum_from` meets its contract: Symbol, or the register after the bits. Assumes nothing.
+use Rattle.checksums.proofs.Answers.{are_bits, of_bits, not_bits}
+use Rattle.checksums.proofs.checksum_from.Goals as goal
+
+pub returns-then-not-all_binary : goal.returns-then-not-all_binary
+returns-then-not-all_binary c = not_bits _ c.all_binary.ensures _ c.if-not-all_binary.true
+
+pub checksum_from_bits-value-requires : goal.checksum_from_bits-value-requires
+checksum_from_bits-value-requires c = are_bits _ c.all_binary.ensures c.if-not-all_binary.false
+
+pub returns : goal.returns
+returns c = of_bits _ c.all_binary.ensures c.if-not-all_binary.false c.checksum_from_bits-value.ensures

@@ -1,0 +1,13 @@
+-- `dcch_interleaver::wire::deinterleave_soft` meets its contract: the cells of the wires passed hold the wires' reliabilities.
+-- The loop knows its format by the rows and the length alone. Assumes nothing.
+use mathlib.Core.Path.{◌≡◌}
+use Prim.Native.Nat.{◌-◌}
+use lib.Ieee.{nan}
+use lib.ListN.{length}
+use Rattle.dcch_interleaver.specs.declared.BlockFormat.{BlockFormat}
+use Rattle.dcch_interleaver.specs.Formats.{encoded_bits, rows_of}
+use Rattle.dcch_interleaver.proofs.Passing.{Receiving}
+use Rattle.dcch_interleaver.proofs.wire.deinterleave_soft.Given as goal
+
+abbrev pub invariant-loop-wire : goal.invariant-loop-wire
+invariant-loop-wire l = (l.wire-end ≡ length l.wires) × ((f : BlockFormat) → l.rows ≡ rows_of f → length l.wires ≡ encoded_bits f → Receiving f nan l.wires l.cells l.wire l.cell)

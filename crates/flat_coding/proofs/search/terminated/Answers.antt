@@ -1,0 +1,13 @@
+-- `flat_coding::search::terminated` meets its contract: a refusal, or what the search finds. Assumes nothing.
+use mathlib.Core.Path.{sym, ◌∙◌}
+use Rattle.flat_coding.proofs.Searches.{passed, by_refusal, by_search}
+use Rattle.flat_coding.proofs.search.terminated.Goals as goal
+
+pub returns-in-Refused : goal.returns-in-Refused
+returns-in-Refused c = by_refusal c.search_refusal-ready.ensures _ c.in-Refused.is c.not_searched.ensures
+
+pub terminated-found-requires : goal.terminated-found-requires
+terminated-found-requires c = passed _ _ (sym c.search_refusal-ready.ensures ∙ c.in_default.is)
+
+pub returns : goal.returns
+returns c = by_search c.search_refusal-ready.ensures c.in_default.is c.terminated-found.ensures

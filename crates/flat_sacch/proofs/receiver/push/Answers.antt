@@ -1,0 +1,16 @@
+-- `flat_sacch::receiver::push` meets its contract. Assumes nothing.
+use Rattle.sacch_receiver.specs.Receiver.{push_word_of}
+use Rattle.sacch_receiver.specs.declared.SacchReceiver.{SacchReceiver}
+use Rattle.flat_sacch.proofs.Flattened.{flat_moved_lem}
+use Rattle.flat_sacch.proofs.receiver.flat_outcome.Reads as flat-outcome-reads
+use Rattle.flat_sacch.proofs.receiver.from_receiver.Reads as from-receiver-reads
+use Rattle.flat_sacch.proofs.receiver.outcome_of.Reads as outcome-of-reads
+use Rattle.flat_sacch.proofs.receiver.to_receiver.Reads as to-receiver-reads
+use Rattle.sacch_receiver.proofs.SacchReceiver.push.Reads as push-reads
+use Rattle.flat_sacch.proofs.receiver.push.Goals as goal
+
+pub returns : goal.returns
+returns c =
+    flat_moved_lem (λ (s : SacchReceiver). push_word_of s c.args.field c.args.dvcc) _ _ _ _ _ _ _
+    c.to_receiver-before.ensures c.push-pushed.ensures c.outcome_of-outcome.ensures
+    c.from_receiver.ensures c.flat_outcome.ensures

@@ -1,0 +1,9 @@
+-- `lines::reply::put_code` meets its contract. Assumes nothing.
+use Prim.Native.Nat.{◌-◌}
+use Rattle.lines.proofs.Lettered.{code_put}
+use borrow.Author.Rules.{rules}
+use Rattle.lines.proofs.reply.put_code.Goals as goal
+
+pub returns : goal.returns
+returns c =
+    (code_put _ _ c.put-a.ensures c.put_hexadecimal-b.ensures.0 c.put-c.ensures c.put_decimal-d.ensures.0 c.put.ensures, search rules)

@@ -1,0 +1,9 @@
+-- `lines::reply::put_content` meets its contract. Assumes nothing.
+use Prim.Native.Nat.{◌-◌}
+use Rattle.lines.proofs.Lettered.{content_put}
+use borrow.Author.Rules.{rules}
+use Rattle.lines.proofs.reply.put_content.Goals as goal
+
+pub returns : goal.returns
+returns c =
+    (content_put _ c.args.continuation _ c.byte_of-c.ensures c.put-a.ensures c.put_hexadecimal-b.ensures.0 c.put_hexadecimal.ensures.0, search rules)

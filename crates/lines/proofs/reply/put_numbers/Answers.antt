@@ -1,0 +1,9 @@
+-- `lines::reply::put_numbers` meets its contract. Assumes nothing.
+use Prim.Native.Nat.{◌-◌}
+use Rattle.text.proofs.Stored.{put_then}
+use borrow.Author.Rules.{rules}
+use Rattle.lines.proofs.reply.put_numbers.Goals as goal
+
+pub returns : goal.returns
+returns c =
+    (put_then c.put_hexadecimal-a.ensures.0 (put_then c.put_hexadecimal-b.ensures.0 c.put.ensures), search rules)

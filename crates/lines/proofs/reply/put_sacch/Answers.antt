@@ -1,0 +1,8 @@
+-- `lines::reply::put_sacch` meets its contract. Assumes nothing.
+use Prim.Native.Nat.{◌-◌}
+use Rattle.lines.proofs.Lettered.{word-put}
+use borrow.Author.Rules.{rules}
+use Rattle.lines.proofs.reply.put_sacch.Goals as goal
+
+pub returns : goal.returns
+returns c = (word-put _ _ _ _ _ _ c.put_content-a.ensures.0 c.put_numbers.ensures.0, search rules)

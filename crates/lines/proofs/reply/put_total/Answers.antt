@@ -1,0 +1,9 @@
+-- `lines::reply::put_total` meets its contract. Assumes nothing.
+use Prim.Native.Nat.{◌-◌}
+use Rattle.lines.proofs.Lettered.{total_put}
+use borrow.Author.Rules.{rules}
+use Rattle.lines.proofs.reply.put_total.Goals as goal
+
+pub returns : goal.returns
+returns c =
+    (total_put _ _ c.put_two-a.ensures.0 c.put_decimal-b.ensures.0 c.put-c.ensures c.put_decimal-d.ensures.0 c.put.ensures, search rules)

@@ -1,0 +1,28 @@
+-- `search::traceback::traceback` meets its contract: the bits and the tie of the steps passed, read from the end. Assumes nothing.
+use native.Mathlib.Omega.{arith}
+use Rattle.search.proofs.Tracing.{Tracing, tracing_none, tracing_more, tracing_done}
+use Rattle.search.proofs.traceback.traceback.Goals as goal
+
+abbrev invariant-loop : tie.InvT-loop
+invariant-loop predecessors end since bits₀ state₀ step₀ tie₀ bits state step tie = Tracing predecessors since end bits₀ bits state step tie
+
+abbrev decreases-loop : tie.MeasureT-loop
+decreases-loop predecessors end since bits₀ state₀ step₀ tie₀ bits state step tie = step
+
+pub loop-step-init : goal.loop-step-init
+loop-step-init c = tracing_none _ _ _ _ c.requires.0
+
+pub tie_so_far-tie-requires : goal.tie_so_far-tie-requires
+tie_so_far-tie-requires c = tt
+
+pub wide-state-requires : goal.wide-state-requires
+wide-state-requires c = tt
+
+pub loop-step-preserved : goal.loop-step-preserved
+loop-step-preserved c = tracing_more _ _ _ _ _ _ _ _ _ _ c.loop-step.invariant (omega arith) c.tie_so_far-tie.ensures c.wide-state.ensures.0
+
+pub shape_of-bits : goal.shape_of-bits
+shape_of-bits c = c.loop-step.invariant.size
+
+pub returns : goal.returns
+returns c = tracing_done _ _ _ _ _ _ _ _ c.loop-step.invariant (omega arith)

@@ -1,0 +1,18 @@
+-- `session::totals::put_codes` meets its contract: the lines of the codes passed are written. Assumes nothing.
+use Prim.Native.Nat.{◌-◌}
+use native.Mathlib.Omega.{arith}
+use Rattle.session.proofs.Closing.{listing_none, listing_more, listing_room, listing_done}
+use Rattle.session.proofs.totals.put_codes.Goals as goal
+
+pub loop-dvcc-init : goal.loop-dvcc-init
+loop-dvcc-init c = listing_none
+
+pub put_line-at-requires : goal.put_line-at-requires
+put_line-at-requires c = listing_room c.loop-dvcc.invariant c.requires.1 c.loop-dvcc-test.true
+
+pub loop-dvcc-preserved : goal.loop-dvcc-preserved
+loop-dvcc-preserved c =
+    listing_more c.loop-dvcc.invariant c.loop-dvcc-test.true (omega arith) c.put_line-at.ensures.0 c.put_line-at.ensures.1
+
+pub returns : goal.returns
+returns c = listing_done c.loop-dvcc.invariant (omega arith)

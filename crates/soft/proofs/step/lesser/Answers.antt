@@ -1,0 +1,11 @@
+-- `soft::step::lesser` meets its contract. Assumes nothing.
+use Rattle.soft.specs.Step.{lesser_of}
+use Rattle.soft.proofs.step.lesser.Goals as goal
+
+pub returns-then-upper-lower : goal.returns-then-upper-lower
+unfolding lesser_of
+returns-then-upper-lower c = rw c.if-upper-lower.true
+
+pub returns-else-upper-lower : goal.returns-else-upper-lower
+unfolding lesser_of
+returns-else-upper-lower c = rw c.if-upper-lower.false

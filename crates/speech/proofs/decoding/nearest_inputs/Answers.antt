@@ -1,0 +1,17 @@
+-- `speech::decoding::nearest_inputs` meets its contract: the protected bits are searched. Assumes nothing.
+use native.Mathlib.Omega.{arith}
+use Rattle.speech.proofs.Settling.{protected_binary, found}
+use Rattle.speech.proofs.decoding.nearest_inputs.Goals as goal
+
+pub terminated-requires : goal.terminated-requires
+terminated-requires c =
+    (
+      omega (arith, c.requires.2),
+      omega (arith, c.requires.2),
+      omega (arith, c.requires.2, c.take_protected.auto.1.0),
+      protected_binary c.args.frame.now c.take_protected.ensures c.requires.1,
+    )
+
+pub returns : goal.returns
+returns c =
+    found c.args.frame.now c.take_protected.ensures c.requires.2 c.terminated.ensures

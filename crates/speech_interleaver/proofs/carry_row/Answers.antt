@@ -1,0 +1,23 @@
+-- `speech_interleaver::carry_row` meets its contract: the columns passed are written. Assumes nothing.
+use mathlib.Core.Path.{sym, ◌∙◌}
+use Prim.Native.Nat.{◌-◌}
+use native.Mathlib.Omega.{arith}
+use Rattle.speech_interleaver.proofs.Rowing.{rowing_none, rowing_done}
+use Rattle.speech_interleaver.proofs.Order.{carried_more}
+use Rattle.speech_interleaver.proofs.carry_row.Goals as goal
+
+pub loop-column-init : goal.loop-column-init
+loop-column-init c = (omega arith, rowing_none c.requires.2)
+
+pub bounds-slot-row : goal.bounds-slot-row
+bounds-slot-row c = omega (arith, c.loop-column.invariant.1.size)
+
+pub loop-column-preserved : goal.loop-column-preserved
+loop-column-preserved c =
+    (omega arith, carried_more c.args.frame.now c.args.row _ c.loop-column.invariant.1 c.requires.0 (omega arith))
+
+pub shape_of-slot : goal.shape_of-slot
+shape_of-slot c = c.loop-column.invariant.1.size ∙ sym c.requires.2
+
+pub returns : goal.returns
+returns c = rowing_done c.loop-column.invariant.1 (λ p b. omega arith)

@@ -1,0 +1,14 @@
+-- `speech_interleaver::interleave` meets its contract: a refusal, or the slot. Assumes nothing.
+use Rattle.bits.proofs.Writing.{declined_end, done_end}
+use Rattle.bits.proofs.Refusing.{passed_two}
+use Rattle.speech_interleaver.proofs.interleave.Goals as goal
+
+pub returns-in-Refused : goal.returns-in-Refused
+returns-in-Refused c = declined_end c.two_and_room-ready.ensures _ c.in-Refused.is
+
+pub carry-requires : goal.carry-requires
+carry-requires c =
+    (passed_two 260 c.args.previous.now 260 c.args.current.now 260 _ c.two_and_room-ready.ensures c.in_default.is).0
+
+pub returns : goal.returns
+returns c = done_end c.two_and_room-ready.ensures c.in_default.is c.carry.ensures

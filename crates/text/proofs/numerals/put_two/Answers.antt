@@ -1,0 +1,8 @@
+-- `text::numerals::put_two` meets its contract. Assumes nothing.
+use Prim.Native.Nat.{◌-◌}
+use Rattle.text.proofs.Stored.{put_then}
+use borrow.Author.Rules.{rules}
+use Rattle.text.proofs.numerals.put_two.Goals as goal
+
+pub returns : goal.returns
+returns c = (put_then c.put-a.ensures c.put.ensures, search rules)
