@@ -10,7 +10,7 @@ returns-in-Read c = rw c.in-Read.is c.nothing_sent.ensures
 pub returns-in-Finish : goal.returns-in-Finish
 unfolding Concluded
 returns-in-Finish c =
-    rw c.in-Finish.is (totals_written c.finish-end.ensures.0 c.finish-end.ensures.1 c.write_first.ensures)
+    rw c.in-Finish.is (totals_written c.finish-end.ensures.put c.finish-end.ensures.upper_bound c.write_first.ensures)
 
 pub returns-in-Fail : goal.returns-in-Fail
 unfolding Concluded

@@ -1,5 +1,6 @@
 -- `frames::listen` meets its contract: what the turns so far come to. Assumes nothing.
-use mathlib.Core.Path.{sym, ◌∙◌}
+use mathlib.Core.Bool.{not}
+use mathlib.Core.Path.{ap, sym, ◌∙◌}
 use native.Mathlib.Omega.{arith}
 use borrow.Author.Tests.{not-false, not-true}
 use Rattle.frames.proofs.Turning.{no_turn_left, nothing_to_read, start_fits, turned_first, turned_more}
@@ -17,7 +18,7 @@ loop-turns-init c =
 pub returns-then-not-goes_on : goal.returns-then-not-goes_on
 returns-then-not-goes_on c =
     let held = c.loop-turns.invariant in
-    (nothing_to_read held.0 (sym c.goes_on.ensures ∙ not-true _ c.if-not-goes_on.true), held.3)
+    (nothing_to_read held.0 (sym c.goes_on.ensures ∙ not-true _ (ap not c.if-not-goes_on.true)), held.3)
 
 pub answer_piece-last-requires-in-loop-turns : goal.answer_piece-last-requires-in-loop-turns
 answer_piece-last-requires-in-loop-turns c =
@@ -28,7 +29,7 @@ pub loop-turns-preserved : goal.loop-turns-preserved
 loop-turns-preserved c =
     let held = c.loop-turns.invariant in
     let done = c.answer_piece-last-in-loop-turns.ensures in
-    (turned_more held.0 (sym c.goes_on.ensures ∙ not-false _ c.if-not-goes_on.false) (omega arith) done.0, done.0.fed.fits, done.1.0, done.1.1)
+    (turned_more held.0 (sym c.goes_on.ensures ∙ not-false _ (ap not c.if-not-goes_on.false)) (omega arith) done.0, done.0.fed.fits, done.1.0, done.1.1)
 
 pub returns : goal.returns
 returns c =

@@ -20,4 +20,4 @@ count-requires c =
 pub returns : goal.returns
 returns c =
     line_some _ _ _ _ _ _ _ _ _ _ _ c.if-left-eq0.false c.reply_to-replied.ensures c.added-more.ensures.0 c.added-more.ensures.1 c.sum-total.ensures
-    c.count.ensures c.put_reply-next.ensures.0 c.put_reply-next.ensures.1 c.requires.0
+    c.count.ensures c.put_reply-next.ensures.put c.put_reply-next.ensures.upper_bound c.requires.0

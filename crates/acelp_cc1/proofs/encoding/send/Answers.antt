@@ -10,4 +10,4 @@ line_outputs-requires c = search rules
 
 pub returns : goal.returns
 returns c =
-    c.send_runs.ensures _ (outputs-coded c.args.inputs.now c.copy_end.ensures c.line_outputs.ensures.0 c.line_outputs.ensures.1)
+    c.send_runs.ensures _ (outputs-coded c.args.inputs.now c.copy_end.ensures c.line_outputs.ensures.first_after c.line_outputs.ensures.second_after)

@@ -46,4 +46,5 @@ shape_of-second c =
 pub returns : goal.returns
 returns c =
     let pre = c.requires in
-    sending_done c.loop-i.invariant.1 pre.0 pre.2 (omega arith)
+    let sent = sending_done c.loop-i.invariant.1 pre.0 pre.2 (omega arith) in
+    record { first_after = sent.0; second_after = sent.1 }

@@ -1,4 +1,6 @@
 -- `dcch::block::finish` meets its contract: the checksum after the information decides. Assumes nothing.
+use mathlib.Core.Bool.{not}
+use mathlib.Core.Path.{ap}
 use native.Mathlib.Omega.{arith}
 use lib.ListN.{length}
 use lib.Seq.{length-take-le}
@@ -16,7 +18,7 @@ sent_checksum-checksum-requires c = search (rules, binary_take)
 
 pub returns-then-not-right : goal.returns-then-not-right
 returns-then-not-right c =
-    failed_end c.args.inputs.now c.args.information.now c.requires.0 c.requires.1 _ _ _ c.sent_checksum-checksum.ensures c.carries-right.ensures c.if-not-right.true
+    failed_end c.args.inputs.now c.args.information.now c.requires.0 c.requires.1 _ _ _ c.sent_checksum-checksum.ensures c.carries-right.ensures (ap not c.if-not-right.true)
 
 pub slice_bounds-copy_from_slice-end : goal.slice_bounds-copy_from_slice-end
 slice_bounds-copy_from_slice-end c = part_length _ _ (omega arith)
@@ -27,4 +29,4 @@ copy_from_slice-requires c =
 
 pub returns : goal.returns
 returns c =
-    taken_end c.args.inputs.now c.args.information.now c.requires.0 c.requires.1 _ _ _ c.sent_checksum-checksum.ensures c.carries-right.ensures c.if-not-right.false c.copy.ensures.1
+    taken_end c.args.inputs.now c.args.information.now c.requires.0 c.requires.1 _ _ _ c.sent_checksum-checksum.ensures c.carries-right.ensures (ap not c.if-not-right.false) c.copy.ensures.1

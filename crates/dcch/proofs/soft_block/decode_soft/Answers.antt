@@ -1,5 +1,6 @@
 -- `dcch::soft_block::decode_soft` meets its contract: a refusal, or the search of the cells. Assumes nothing.
-use mathlib.Core.Path.{refl}
+use mathlib.Core.Bool.{not}
+use mathlib.Core.Path.{ap, refl}
 use Rattle.bits.proofs.LentPart.{part_length, whole_length}
 use Rattle.dcch.proofs.SoftDecodings.{declined_end, unreadable_end, within, asks_wires, asks_cells, settled_end}
 use Rattle.dcch.proofs.soft_block.decode_soft.Goals as goal
@@ -12,7 +13,7 @@ returns-in-Refused c =
 pub returns-then-not-all_finite : goal.returns-then-not-all_finite
 returns-then-not-all_finite c =
     unreadable_end c.args.format c.args.block.now c.args.dvcc c.args.mode c.args.information.now
-    c.soft_arguments-ready.ensures c.in_default.is c.all_finite.ensures c.if-not-all_finite.true
+    c.soft_arguments-ready.ensures c.in_default.is c.all_finite.ensures (ap not c.if-not-all_finite.true)
 
 pub slice_bounds-cells-end : goal.slice_bounds-cells-end
 slice_bounds-cells-end c =
@@ -45,11 +46,11 @@ search_cells-requires c =
     asks_cells c.args.format c.args.block.now c.args.dvcc c.args.mode c.args.information.now
     c.soft_arguments-ready.ensures c.in_default.is c.all_finite.ensures _ c.encoded_bits-bits.ensures _
     refl c.deinterleave_soft.new.1.1.0 c.deinterleave_soft.auto.1.1.0
-    c.deinterleave_soft.ensures c.if-not-all_finite.false
+    c.deinterleave_soft.ensures (ap not c.if-not-all_finite.false)
 
 pub returns : goal.returns
 returns c =
     settled_end c.args.format c.args.block.now c.args.dvcc c.args.mode c.args.information.now
     c.soft_arguments-ready.ensures c.in_default.is c.all_finite.ensures _ c.encoded_bits-bits.ensures _
     refl c.deinterleave_soft.new.1.1.0 c.deinterleave_soft.auto.1.1.0
-    c.deinterleave_soft.ensures c.if-not-all_finite.false c.search_cells.ensures
+    c.deinterleave_soft.ensures (ap not c.if-not-all_finite.false) c.search_cells.ensures

@@ -6,21 +6,14 @@ use native.Mathlib.Omega.{arith}
 use Rattle.dcch_interleaver.proofs.Passing.{Receiving, receiving_none, receiving_more, receiving_done, standing_below, standing_next, next_allowed}
 use Rattle.dcch_interleaver.proofs.wire.deinterleave.Goals as goal
 
--- the invariant at the call's own format
-abbrev start : tie.At-loop invariant-loop decreases-loop → tie.Start invariant-loop decreases-loop
-start c = c.before.before.before.before
-
-own : (c : tie.At-loop invariant-loop decreases-loop) → Receiving (start c).args.format 0 (start c).args.wires.now c.loop.cells c.loop.wire c.loop.cell
-own c = c.loop.invariant.1 (start c).args.format c.before.rows.ensures (start c).requires.0
-
 pub loop-wire-init : goal.loop-wire-init
 loop-wire-init c = (refl, λ f r n. receiving_none f (c.requires.1 ∙ sym c.requires.0 ∙ n))
 
 pub bounds-cells-cell : goal.bounds-cells-cell
-bounds-cells-cell c = omega (arith, (own c).size, standing_below _ (own c).stands (omega arith))
+bounds-cells-cell c = omega (arith, (c.loop-wire.invariant.1 c.args.format c.rows-rows.ensures c.requires.0).size, standing_below _ (c.loop-wire.invariant.1 c.args.format c.rows-rows.ensures c.requires.0).stands (omega arith))
 
 pub next_cell-cell-requires : goal.next_cell-cell-requires
-next_cell-cell-requires c = next_allowed _ (own c).stands (omega arith) c.rows-rows.ensures
+next_cell-cell-requires c = next_allowed _ (c.loop-wire.invariant.1 c.args.format c.rows-rows.ensures c.requires.0).stands (omega arith) c.rows-rows.ensures
 
 pub loop-wire-preserved : goal.loop-wire-preserved
 loop-wire-preserved c = (
@@ -31,7 +24,7 @@ loop-wire-preserved c = (
 )
 
 pub shape_of-cells : goal.shape_of-cells
-shape_of-cells c = (own c).size ∙ sym (start c).pre.1
+shape_of-cells c = (c.loop-wire.invariant.1 c.args.format c.rows-rows.ensures c.requires.0).size ∙ sym c.requires.1
 
 pub returns : goal.returns
-returns c = receiving_done (own c) (omega arith)
+returns c = receiving_done (c.loop-wire.invariant.1 c.args.format c.rows-rows.ensures c.requires.0) (omega arith)

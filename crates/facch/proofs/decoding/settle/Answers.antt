@@ -4,14 +4,14 @@ use Rattle.facch.proofs.decoding.settle.Goals as goal
 
 pub returns-then-found : goal.returns-then-found
 returns-then-found c =
-    tied_end c.args.coded.now c.args.dvcc c.args.observed c.requires.1.0 c.requires.1.1 c.nearest_word-found.ensures
+    tied_end c.args.coded.now c.args.dvcc c.args.observed c.requires.observed_value.0 c.requires.observed_value.1 c.nearest_word-found.ensures
     c.if-found.true
 
 pub finish-requires : goal.finish-requires
 finish-requires c =
-    asks_finish c.args.coded.now c.args.dvcc c.args.observed c.requires.1.0 c.requires.1.1 c.nearest_word-found.ensures
+    asks_finish c.args.coded.now c.args.dvcc c.args.observed c.requires.observed_value.0 c.requires.observed_value.1 c.nearest_word-found.ensures
 
 pub returns : goal.returns
 returns c =
-    alone_end c.args.coded.now c.args.dvcc c.args.observed c.requires.1.0 c.requires.1.1 c.nearest_word-found.ensures
+    alone_end c.args.coded.now c.args.dvcc c.args.observed c.requires.observed_value.0 c.requires.observed_value.1 c.nearest_word-found.ensures
     c.if-found.false c.finish.ensures

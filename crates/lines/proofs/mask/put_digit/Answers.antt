@@ -16,4 +16,4 @@ pub bounds-bits-at-4 : goal.bounds-bits-at-4
 bounds-bits-at-4 c = simp length-set (omega arith)
 
 pub returns : goal.returns
-returns c = (four_put _ _ c.observed-first.ensures c.observed-second.ensures c.observed-third.ensures c.observed-fourth.ensures, refl)
+returns c = record { put = four_put _ _ c.observed-first.ensures c.observed-second.ensures c.observed-third.ensures c.observed-fourth.ensures; value = refl }

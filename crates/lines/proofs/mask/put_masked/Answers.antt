@@ -14,7 +14,7 @@ put_digit-at-requires c =
 
 pub loop-i-preserved : goal.loop-i-preserved
 loop-i-preserved c =
-    (c.loop-i.invariant.0, c.put_digit-at.ensures.0.kept ∙ c.loop-i.invariant.1, reading_more c.loop-i.invariant.0 c.loop-i.invariant.2 (omega arith) c.digit-d.ensures.0 c.digit-m.ensures.0 c.put_digit-at.ensures.0 c.put_digit-at.ensures.1)
+    (c.loop-i.invariant.0, c.put_digit-at.ensures.put.kept ∙ c.loop-i.invariant.1, reading_more c.loop-i.invariant.0 c.loop-i.invariant.2 (omega arith) c.digit-d.ensures.0 c.digit-m.ensures.0 c.put_digit-at.ensures.put c.put_digit-at.ensures.value)
 
 pub returns : goal.returns
 returns c = reading_done c.loop-i.invariant.0 c.loop-i.invariant.2 (omega arith) c.requires.1

@@ -6,4 +6,4 @@ use Rattle.lines.proofs.reply.put_code.Goals as goal
 
 pub returns : goal.returns
 returns c =
-    (code_put _ _ c.put-a.ensures c.put_hexadecimal-b.ensures.0 c.put-c.ensures c.put_decimal-d.ensures.0 c.put.ensures, search rules)
+    record { put = code_put _ _ c.put-a.ensures c.put_hexadecimal-b.ensures.put c.put-c.ensures c.put_decimal-d.ensures.put c.put.ensures; upper_bound = search rules }

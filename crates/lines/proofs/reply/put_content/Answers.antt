@@ -6,4 +6,4 @@ use Rattle.lines.proofs.reply.put_content.Goals as goal
 
 pub returns : goal.returns
 returns c =
-    (content_put _ c.args.continuation _ c.byte_of-c.ensures c.put-a.ensures c.put_hexadecimal-b.ensures.0 c.put_hexadecimal.ensures.0, search rules)
+    record { put = content_put _ c.args.continuation _ c.byte_of-c.ensures c.put-a.ensures c.put_hexadecimal-b.ensures.put c.put_hexadecimal.ensures.put; value = search rules }

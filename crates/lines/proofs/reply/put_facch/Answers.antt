@@ -5,4 +5,4 @@ use borrow.Author.Rules.{rules}
 use Rattle.lines.proofs.reply.put_facch.Goals as goal
 
 pub returns : goal.returns
-returns c = (word-put _ _ _ _ _ _ c.put_content-a.ensures.0 c.put_numbers.ensures.0, search rules)
+returns c = record { put = word-put _ _ _ _ _ _ c.put_content-a.ensures.put c.put_numbers.ensures.put; value = search rules }

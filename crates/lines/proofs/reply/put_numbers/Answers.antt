@@ -6,4 +6,4 @@ use Rattle.lines.proofs.reply.put_numbers.Goals as goal
 
 pub returns : goal.returns
 returns c =
-    (put_then c.put_hexadecimal-a.ensures.0 (put_then c.put_hexadecimal-b.ensures.0 c.put.ensures), search rules)
+    record { put = put_then c.put_hexadecimal-a.ensures.put (put_then c.put_hexadecimal-b.ensures.put c.put.ensures); value = search rules }

@@ -6,4 +6,4 @@ use Rattle.lines.proofs.reply.put_refusal.Goals as goal
 
 pub returns : goal.returns
 returns c =
-    (refusal_put _ c.number-n.ensures c.put-a.ensures c.put_hexadecimal-b.ensures.0 c.put.ensures, search rules)
+    record { put = refusal_put _ c.number-n.ensures c.put-a.ensures c.put_hexadecimal-b.ensures.put c.put.ensures; value = search rules }

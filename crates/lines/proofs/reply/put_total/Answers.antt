@@ -6,4 +6,4 @@ use Rattle.lines.proofs.reply.put_total.Goals as goal
 
 pub returns : goal.returns
 returns c =
-    (total_put _ _ c.put_two-a.ensures.0 c.put_decimal-b.ensures.0 c.put-c.ensures c.put_decimal-d.ensures.0 c.put.ensures, search rules)
+    record { put = total_put _ _ c.put_two-a.ensures.put c.put_decimal-b.ensures.put c.put-c.ensures c.put_decimal-d.ensures.put c.put.ensures; upper_bound = search rules }

@@ -1,4 +1,5 @@
 -- `sacch_interleaver::SacchDeinterleaver::push` meets its contract: State, Symbol, or the field stored. Assumes nothing.
+use mathlib.Core.Bool.{not}
 use mathlib.Core.Path.{sym, ap, ◌∙◌}
 use native.Mathlib.Omega.{arith}
 use borrow.Author.Tests.{lt-ltb, le-ltb, not-true, not-false}
@@ -9,14 +10,14 @@ use Rattle.sacch_interleaver.proofs.SacchDeinterleaver.push.Goals as goal
 
 pub returns-then-not-fits : goal.returns-then-not-fits
 unfolding push_row_of
-returns-then-not-fits c = rw (sym c.fits2.ensures ∙ not-true _ c.if-not-fits.true)
+returns-then-not-fits c = rw (sym c.fits.ensures ∙ not-true _ (ap not c.if-not-fits.true))
 
 pub returns-then-field-gt4095 : goal.returns-then-field-gt4095
 unfolding push_row_of
-returns-then-field-gt4095 c = rw (sym c.fits2.ensures ∙ not-false _ c.if-not-fits.false, le-ltb c.args.field 4096 (omega arith))
+returns-then-field-gt4095 c = rw (sym c.fits.ensures ∙ not-false _ (ap not c.if-not-fits.false), le-ltb c.args.field 4096 (omega arith))
 
 pub with_field-deinterleaver-requires : goal.with_field-deinterleaver-requires
-with_field-deinterleaver-requires c = (fit_of c.args.self (sym c.fits2.ensures ∙ not-false _ c.if-not-fits.false)).cursor
+with_field-deinterleaver-requires c = (fit_of c.args.self (sym c.fits.ensures ∙ not-false _ (ap not c.if-not-fits.false))).cursor
 
 pub row_found-requires : goal.row_found-requires
 unfolding field_stored
@@ -26,5 +27,5 @@ pub returns : goal.returns
 unfolding push_row_of
 returns c =
     let a = c.args in
-    rw (sym c.fits2.ensures ∙ not-false _ c.if-not-fits.false, lt-ltb a.field 4096 (omega arith))
+    rw (sym c.fits.ensures ∙ not-false _ (ap not c.if-not-fits.false), lt-ltb a.field 4096 (omega arith))
     (stored_is a.self a.field c.with_field-deinterleaver.ensures c.row_found.ensures)

@@ -1,13 +1,7 @@
 -- `search::traceback::traceback` meets its contract: the bits and the tie of the steps passed, read from the end. Assumes nothing.
 use native.Mathlib.Omega.{arith}
-use Rattle.search.proofs.Tracing.{Tracing, tracing_none, tracing_more, tracing_done}
+use Rattle.search.proofs.Tracing.{tracing_none, tracing_more, tracing_done}
 use Rattle.search.proofs.traceback.traceback.Goals as goal
-
-abbrev invariant-loop : tie.InvT-loop
-invariant-loop predecessors end since bits₀ state₀ step₀ tie₀ bits state step tie = Tracing predecessors since end bits₀ bits state step tie
-
-abbrev decreases-loop : tie.MeasureT-loop
-decreases-loop predecessors end since bits₀ state₀ step₀ tie₀ bits state step tie = step
 
 pub loop-step-init : goal.loop-step-init
 loop-step-init c = tracing_none _ _ _ _ c.requires.0

@@ -16,4 +16,4 @@ loop-i-preserved c =
     feeding_more c.loop-i.invariant (omega arith) c.line_end-end.ensures c.feed_part-fed.ensures
 
 pub returns : goal.returns
-returns c = (feeding_done c.loop-i.invariant (omega arith), feeding_fits c.loop-i.invariant c.requires.1)
+returns c = record { piece_fed = feeding_done c.loop-i.invariant (omega arith); at_in_bounds = feeding_fits c.loop-i.invariant c.requires.1 }

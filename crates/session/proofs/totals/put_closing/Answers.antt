@@ -6,4 +6,4 @@ use Rattle.session.proofs.totals.put_closing.Goals as goal
 
 pub returns : goal.returns
 returns c =
-    (closing-put _ _ c.rate-parts.ensures c.put_total-next.ensures.0 c.put_codes.ensures.0, search rules)
+    record { put = closing-put _ _ c.rate-parts.ensures c.put_total-next.ensures.put c.put_codes.ensures.put; upper_bound = search rules }

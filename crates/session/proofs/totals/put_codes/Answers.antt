@@ -12,7 +12,7 @@ put_line-at-requires c = listing_room c.loop-dvcc.invariant c.requires.1 c.loop-
 
 pub loop-dvcc-preserved : goal.loop-dvcc-preserved
 loop-dvcc-preserved c =
-    listing_more c.loop-dvcc.invariant c.loop-dvcc-test.true (omega arith) c.put_line-at.ensures.0 c.put_line-at.ensures.1
+    listing_more c.loop-dvcc.invariant c.loop-dvcc-test.true (omega arith) c.put_line-at.ensures.put c.put_line-at.ensures.upper_bound
 
 pub returns : goal.returns
 returns c = listing_done c.loop-dvcc.invariant (omega arith)

@@ -6,7 +6,6 @@ use borrow.Author.Rules.{rules}
 use Rattle.session.proofs.totals.put_line.Goals as goal
 
 pub returns-then-words-eq0 : goal.returns-then-words-eq0
-returns-then-words-eq0 c = (code_none _ _ _ _ (omega (arith, c.if-words-eq0.true)), search rules)
-
+returns-then-words-eq0 c = record { put = code_none _ _ _ _ (omega (arith, c.if-words-eq0.true)); upper_bound = search rules }
 pub returns : goal.returns
-returns c = (code_some _ _ (λ e. omega (arith, e, c.if-words-eq0.false)) c.put_code.ensures.0, search rules)
+returns c = record { put = code_some _ _ (λ e. omega (arith, e, c.if-words-eq0.false)) c.put_code.ensures.put; upper_bound = search rules }

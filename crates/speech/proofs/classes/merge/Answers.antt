@@ -6,15 +6,15 @@ use Rattle.speech.proofs.classes.merge.Goals as goal
 
 pub put_ranges-requires : goal.put_ranges-requires
 unfolding total_of inside
-put_ranges-requires c = (in_frame _ (refl, tt) c.requires.0.2, c.requires.0.1)
+put_ranges-requires c = (in_frame _ (refl, tt) c.requires.protected_len.2, c.requires.protected_len.1)
 
 pub put_ranges-requires-2 : goal.put_ranges-requires-2
 unfolding total_of inside
 put_ranges-requires-2 c =
-    (in_frame _ (refl, tt) (c.put_ranges.auto.1.1.0 ∙ c.requires.0.2), c.requires.0.0)
+    (in_frame _ (refl, tt) (c.put_ranges.auto.1.1.0 ∙ c.requires.protected_len.2), c.requires.protected_len.0)
 
 pub returns : goal.returns
 returns c =
     c.put_ranges-2.ensures
     ∙ ap (put_ranges between c.args.protected.now) c.put_ranges.ensures
-    ∙ merged c.args.protected.now c.args.class_two_lem.now c.args.frame.now c.requires.0 c.requires.1
+    ∙ merged c.args.protected.now c.args.class_two_lem.now c.args.frame.now c.requires.protected_len c.requires.protected_value

@@ -5,4 +5,4 @@ use borrow.Author.Rules.{rules}
 use Rattle.text.proofs.numerals.put_decimal.Goals as goal
 
 pub returns : goal.returns
-returns c = (decimal-put _ _ c.decimal_places-k.ensures.0 c.put_digits.ensures.0, search rules)
+returns c = record { put = decimal-put _ _ c.decimal_places-k.ensures.0 c.put_digits.ensures.put; upper_bound = search rules }

@@ -25,4 +25,4 @@ loop-i-preserved c = let l = c.loop-i in
     )
 
 pub returns : goal.returns
-returns c = (left_none _ _ _ _ _ _ _ _ (search rules) c.loop-i.invariant.2, search rules)
+returns c = record { put = left_none _ _ _ _ _ _ _ _ (search rules) c.loop-i.invariant.2; value = search rules }

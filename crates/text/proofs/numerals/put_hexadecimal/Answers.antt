@@ -5,4 +5,4 @@ use borrow.Author.Rules.{rules}
 use Rattle.text.proofs.numerals.put_hexadecimal.Goals as goal
 
 pub returns : goal.returns
-returns c = (hexadecimal-put _ _ c.put-next.ensures c.put_digits.ensures.0, search rules)
+returns c = record { put = hexadecimal-put _ _ c.put-next.ensures c.put_digits.ensures.put; value = search rules }

@@ -5,4 +5,4 @@ use borrow.Author.Rules.{rules}
 use Rattle.text.proofs.numerals.put_two.Goals as goal
 
 pub returns : goal.returns
-returns c = (put_then c.put-a.ensures c.put.ensures, search rules)
+returns c = record { put = put_then c.put-a.ensures c.put.ensures; value = search rules }
