@@ -12,7 +12,7 @@ fn rotate(inputs: &[u8], word: &mut [u8])
     requires { (length inputs.now ≡ 65) × (length word.old ≡ 65) }
     ensures { word.new ≡ drop 60 inputs.now ++ take 60 inputs.now }
 {
-    word.copy_from_slice(&inputs[60..65]);
+    word[0..5].copy_from_slice(&inputs[60..65]);
     word[5..65].copy_from_slice(&inputs[..60]);
 }
 

@@ -18,7 +18,7 @@ pub bounds-slot-wire : goal.bounds-slot-wire
 bounds-slot-wire c = omega (arith, c.loop-wire.invariant.1.filling.size, in_word (omega arith) c.index-place.ensures)
 
 pub loop-wire-preserved : goal.loop-wire-preserved
-loop-wire-preserved c = (refl, gathering_more c.loop-wire.invariant.1 (omega arith) c.index-place.ensures c.by_Row.ensures)
+loop-wire-preserved c = (refl, gathering_more c.loop-wire.invariant.1 (omega arith) c.index-place.ensures c.by_row.ensures)
 
 pub shape_of-slot : goal.shape_of-slot
 shape_of-slot c = c.loop-wire.invariant.1.filling.size ∙ sym c.requires.2

@@ -9,7 +9,7 @@ pub returns-then-row-eq0 : goal.returns-then-row-eq0
 returns-then-row-eq0 c = first_row_lem _ c.requires.1 ∙ ap (λ row. place_of row c.args.column) (sym c.if-row-eq0.true)
 
 pub overflow_add-result-in-0-to-2 : goal.overflow_add-result-in-0-to-2
-overflow_add-result-in-0-to-2 c = record { fits = early_fits _ (omega arith) c.requires.0 _ c.if-column-lt3.true }
+overflow_add-result-in-0-to-2 c = record { fits = early_fits _ (omega arith) c.requires.0 _ (omega arith) }
 
 pub returns-in-3 : goal.returns-in-3
 returns-in-3 c = c.column_three.ensures ∙ sym (ap (place_of c.args.row) c.in-3.is)
@@ -30,7 +30,7 @@ pub returns-in-8 : goal.returns-in-8
 returns-in-8 c = column_eight _ (omega arith) c.requires.0 c.in-8.is
 
 pub returns-in-0-to-2 : goal.returns-in-0-to-2
-returns-in-0-to-2 c = early_column _ (omega arith) c.requires.0 _ c.if-column-lt3.true
+returns-in-0-to-2 c = early_column _ (omega arith) c.requires.0 _ (omega arith)
 
 pub returns-in_default : goal.returns-in_default
 returns-in_default c = column_nine _ (omega arith) c.requires.0 (omega arith)

@@ -14,7 +14,7 @@ spread_row-requires c =
 
 pub loop-pair-preserved : goal.loop-pair-preserved
 loop-pair-preserved c =
-    (omega arith, rows_more _ c.loop-pair.invariant.1 c.requires.0 refl c.Spread-row.ensures)
+    (omega arith, rows_more _ c.loop-pair.invariant.1 c.requires.0 refl c.spread_row.ensures)
 
 pub shape_of-coded : goal.shape_of-coded
 shape_of-coded c = c.loop-pair.invariant.1.size ∙ sym c.requires.2

@@ -7,7 +7,7 @@ pub loop-step-init : goal.loop-step-init
 loop-step-init c = tracing_none _ _
 
 pub loop-step-preserved : goal.loop-step-preserved
-loop-step-preserved c = tracing_more _ _ _ _ _ _ c.loop-step.invariant (omega arith) c.wide-state.ensures.0 c.requires.1
+loop-step-preserved c = tracing_more _ _ _ _ _ _ c.loop-step.invariant (omega arith) c.wide-state.ensures.0 c.requires.by_index
 
 pub returns : goal.returns
 returns c = tracing_done _ _ _ _ _ c.loop-step.invariant (omega arith)

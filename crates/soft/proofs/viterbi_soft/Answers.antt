@@ -24,7 +24,7 @@ traceback-requires c =
     let made = c.forward-predecessors in
     let n = length c.args.word.now in
     let below : (k s : ℕ) → k < n → s < 32 → rust_from values k s < 32 = rust_below values n (omega (arith, c.requires.2)) c.requires.3 in
-    (search rules, λ k s hk hs. subst (λ (p : ℕ). p < 32) (sym (stored-all values made.result n c.requires.2 made.ensures.1 k hk s hs)) (below k s hk hs))
+    record { word_in_bounds = search rules; by_index = λ k s hk hs. subst (λ (p : ℕ). p < 32) (sym (stored-all values made.result n c.requires.2 made.ensures.1 k hk s hs)) (below k s hk hs) }
 
 pub returns : goal.returns
 unfolding rust_bits

@@ -6,11 +6,11 @@ pub search-requires : goal.search-requires
 search-requires c =
     let filled = c.fill_rows in
     let numbered = c.step_numbers-symbols in
-    (numbered.ensures.0, small_rows c.args.received.now numbered.result filled.new.1.0 filled.auto.1.0 numbered.ensures.0 c.requires.0 filled.ensures numbered.ensures.1, c.requires.1)
+    (numbered.ensures.0, small_rows c.args.received.now numbered.result filled.new.rows filled.auto.rows numbered.ensures.0 c.requires.0 filled.ensures numbered.ensures.1, c.requires.1)
 
 pub returns : goal.returns
 returns c =
     let filled = c.fill_rows in
     let numbered = c.step_numbers-symbols in
-    found_weight c.args.received.now numbered.result filled.new.1.0 filled.auto.1.0 numbered.ensures.0 c.requires.0 filled.ensures numbered.ensures.1 _ _
+    found_weight c.args.received.now numbered.result filled.new.rows filled.auto.rows numbered.ensures.0 c.requires.0 filled.ensures numbered.ensures.1 _ _
     c.search.ensures

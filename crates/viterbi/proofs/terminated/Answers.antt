@@ -13,17 +13,17 @@ fill_symbols-requires c =
     asks_fill (length c.args.word.now) c.args.coded.now _ (omega arith) (omega arith) c.requires.2 c.requires.3
 
 pub slice_bounds-symbols-end-2 : goal.slice_bounds-symbols-end-2
-slice_bounds-symbols-end-2 c = whole_length _ _ (omega arith) c.fill_symbols.new.1.0 c.fill_symbols.auto.1.0
+slice_bounds-symbols-end-2 c = whole_length _ _ (omega arith) c.fill_symbols.new.symbols c.fill_symbols.auto.symbols
 
 pub slice_bounds-nearest_between-end-2 : goal.slice_bounds-nearest_between-end-2
-slice_bounds-nearest_between-end-2 c = part_length _ _ (whole_length _ _ (omega arith) c.fill_symbols.new.1.0 c.fill_symbols.auto.1.0)
+slice_bounds-nearest_between-end-2 c = part_length _ _ (whole_length _ _ (omega arith) c.fill_symbols.new.symbols c.fill_symbols.auto.symbols)
 
 pub nearest_between-requires : goal.nearest_between-requires
 nearest_between-requires c =
     let rows = c.pair_rows-rows in
     let filled = c.fill_symbols in
     let asks = asks_search c.args.coded.now rows.result (length c.args.word.now) rows.ensures.0 rows.ensures.1 c.requires.2 c.requires.3 _ (omega arith)
-    filled.new.1.0 filled.auto.1.0 filled.ensures c.requires.0 c.requires.1 in
+    filled.new.symbols filled.auto.symbols filled.ensures c.requires.0 c.requires.1 in
     (omega arith, omega arith, asks.0, asks.1, asks.2, asks.3)
 
 pub returns : goal.returns
@@ -31,4 +31,4 @@ returns c =
     let rows = c.pair_rows-rows in
     let filled = c.fill_symbols in
     found_terminated c.args.coded.now rows.result (length c.args.word.now) rows.ensures.0 rows.ensures.1 c.requires.2 c.requires.3 _ (omega arith)
-    filled.new.1.0 filled.auto.1.0 filled.ensures c.requires.0 _ _ c.nearest_between.ensures
+    filled.new.symbols filled.auto.symbols filled.ensures c.requires.0 _ _ c.nearest_between.ensures

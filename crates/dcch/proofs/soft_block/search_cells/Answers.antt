@@ -12,28 +12,28 @@ viterbi_soft-requires c =
     asks_soft c.args.values.now c.args.information.now c.requires.0 c.requires.1 c.requires.2
 
 pub slice_bounds-word-end-2 : goal.slice_bounds-word-end-2
-slice_bounds-word-end-2 c = whole_length _ _ (omega arith) c.viterbi_soft.new.1.0 c.viterbi_soft.auto.1.0
+slice_bounds-word-end-2 c = whole_length _ _ (omega arith) c.viterbi_soft.new.word c.viterbi_soft.auto.word
 
 pub slice_bounds-count_signs-end : goal.slice_bounds-count_signs-end
-slice_bounds-count_signs-end c = part_length _ _ (whole_length _ _ (omega arith) c.viterbi_soft.new.1.0 c.viterbi_soft.auto.1.0)
+slice_bounds-count_signs-end c = part_length _ _ (whole_length _ _ (omega arith) c.viterbi_soft.new.word c.viterbi_soft.auto.word)
 
 pub count_signs-corrected-requires : goal.count_signs-corrected-requires
 count_signs-corrected-requires c =
-    asks_signs c.args.values.now c.args.information.now c.requires.0 c.requires.1 c.requires.2 c.viterbi_soft.new.1.0
-    c.viterbi_soft.auto.1.0 c.viterbi_soft.ensures
+    asks_signs c.args.values.now c.args.information.now c.requires.0 c.requires.1 c.requires.2 c.viterbi_soft.new.word
+    c.viterbi_soft.auto.word c.viterbi_soft.ensures
 
 pub slice_bounds-word-end-3 : goal.slice_bounds-word-end-3
-slice_bounds-word-end-3 c = whole_length _ _ (omega arith) c.viterbi_soft.new.1.0 c.viterbi_soft.auto.1.0
+slice_bounds-word-end-3 c = whole_length _ _ (omega arith) c.viterbi_soft.new.word c.viterbi_soft.auto.word
 
 pub slice_bounds-finish-end : goal.slice_bounds-finish-end
-slice_bounds-finish-end c = part_length _ _ (whole_length _ _ (omega arith) c.viterbi_soft.new.1.0 c.viterbi_soft.auto.1.0)
+slice_bounds-finish-end c = part_length _ _ (whole_length _ _ (omega arith) c.viterbi_soft.new.word c.viterbi_soft.auto.word)
 
 pub finish-requires : goal.finish-requires
 finish-requires c =
-    asks_finish c.args.values.now c.args.information.now c.requires.0 c.requires.1 c.requires.2 c.viterbi_soft.new.1.0
-    c.viterbi_soft.auto.1.0 c.viterbi_soft.ensures
+    asks_finish c.args.values.now c.args.information.now c.requires.0 c.requires.1 c.requires.2 c.viterbi_soft.new.word
+    c.viterbi_soft.auto.word c.viterbi_soft.ensures
 
 pub returns : goal.returns
 returns c =
-    soft_end c.args.values.now c.args.information.now c.requires.0 c.requires.1 c.requires.2 c.viterbi_soft.new.1.0
-    c.viterbi_soft.auto.1.0 c.viterbi_soft.ensures c.count_signs-corrected.ensures c.finish.ensures
+    soft_end c.args.values.now c.args.information.now c.requires.0 c.requires.1 c.requires.2 c.viterbi_soft.new.word
+    c.viterbi_soft.auto.word c.viterbi_soft.ensures c.count_signs-corrected.ensures c.finish.ensures

@@ -4,7 +4,7 @@ use Rattle.flat_coding.proofs.Searches.{passed, by_refusal, by_search}
 use Rattle.flat_coding.proofs.search.terminated.Goals as goal
 
 pub returns-in-Refused : goal.returns-in-Refused
-returns-in-Refused c = by_refusal c.search_refusal-ready.ensures _ c.in-Refused.is c.not_searched.ensures
+returns-in-Refused c = by_refusal c.search_refusal-ready.ensures _ c.in-Refused.is c.no_search.ensures
 
 pub terminated-found-requires : goal.terminated-found-requires
 terminated-found-requires c = passed _ _ (sym c.search_refusal-ready.ensures ∙ c.in_default.is)

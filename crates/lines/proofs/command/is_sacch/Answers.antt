@@ -1,11 +1,7 @@
 -- `lines::command::is_sacch` meets its contract. Assumes nothing.
-use Prim.Native.Nat.{◌-◌}
 use Rattle.lines.specs.Commands.{sacch_shape}
 use borrow.Author.Rules.{rules}
 use Rattle.lines.proofs.command.is_sacch.Goals as goal
-
-slice-aggregate-has-shape : tie.Need-slice-aggregate-has-shape
-slice-aggregate-has-shape c = search rules
 
 pub returns : goal.returns
 unfolding sacch_shape

@@ -9,18 +9,18 @@ use Rattle.sacch_receiver.proofs.SacchReceiver.pushed.Goals as goal
 
 pub returns-then-not-receiver_fits : goal.returns-then-not-receiver_fits
 unfolding push_of
-returns-then-not-receiver_fits c = rw (sym c.receiver_fit.ensures ∙ not-true _ (ap not c.if-not-receiver_fits.true))
+returns-then-not-receiver_fits c = rw (sym c.receiver_fits.ensures ∙ not-true _ (ap not c.if-not-receiver_fits.true))
 
 pub returns-then-field-gt4095 : goal.returns-then-field-gt4095
 unfolding push_of
-returns-then-field-gt4095 c = rw (sym c.receiver_fit.ensures ∙ not-false _ (ap not c.if-not-receiver_fits.false), le-ltb c.args.field 4096 (omega arith))
+returns-then-field-gt4095 c = rw (sym c.receiver_fits.ensures ∙ not-false _ (ap not c.if-not-receiver_fits.false), le-ltb c.args.field 4096 (omega arith))
 
 pub step-requires : goal.step-requires
 step-requires c =
-    let f = fit_of c.args.self (sym c.receiver_fit.ensures ∙ not-false _ (ap not c.if-not-receiver_fits.false)) in
+    let f = fit_of c.args.self (sym c.receiver_fits.ensures ∙ not-false _ (ap not c.if-not-receiver_fits.false)) in
     (f.field_cursor, f.row_cursor, f.phase)
 
 pub returns : goal.returns
 unfolding push_of
 returns c =
-    rw (sym c.receiver_fit.ensures ∙ not-false _ (ap not c.if-not-receiver_fits.false), lt-ltb c.args.field 4096 (omega arith)) c.step.ensures
+    rw (sym c.receiver_fits.ensures ∙ not-false _ (ap not c.if-not-receiver_fits.false), lt-ltb c.args.field 4096 (omega arith)) c.step.ensures

@@ -16,9 +16,9 @@ lower-lowest-requires c = tt
 pub loop-state-preserved : goal.loop-state-preserved
 loop-state-preserved c = (
   omega arith,
-  subst (λ (d : End). LowestEnd c.args.t1 (c.loop-state.state + 1) d) (sym c.lower-lowest.ensures)
-      (lowest_more c.args.t1 c.loop-state.state c.loop-state.lowest c.loop-state.invariant.1),
+  subst (λ (d : End). LowestEnd c.args.metrics (c.loop-state.state + 1) d) (sym c.lower-lowest.ensures)
+      (lowest_more c.args.metrics c.loop-state.state c.loop-state.lowest c.loop-state.invariant.1),
 )
 
 pub returns : goal.returns
-returns c = subst (λ (k : ℕ). LowestEnd c.args.t1 k c.loop-state.lowest) (omega arith) c.loop-state.invariant.1
+returns c = subst (λ (k : ℕ). LowestEnd c.args.metrics k c.loop-state.lowest) (omega arith) c.loop-state.invariant.1

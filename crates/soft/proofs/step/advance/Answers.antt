@@ -6,4 +6,4 @@ use Rattle.soft.proofs.step.advance.Goals as goal
 pub returns : goal.returns
 returns c =
     let selected = c.select-selected.ensures in
-    record { metric = selected.metric; stored = λ t h. c.Stored-row.ensures t h ∙ ap₂ stored_of (selected.metric t h) (selected.chosen t h) }
+    record { metric = selected.metric; stored = λ t h. c.stored_row-row.ensures t h ∙ ap₂ stored_of (selected.metric t h) (selected.chosen t h) }

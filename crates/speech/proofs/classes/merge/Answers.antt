@@ -11,7 +11,7 @@ put_ranges-requires c = (in_frame _ (refl, tt) c.requires.protected_len.2, c.req
 pub put_ranges-requires-2 : goal.put_ranges-requires-2
 unfolding total_of inside
 put_ranges-requires-2 c =
-    (in_frame _ (refl, tt) (c.put_ranges.auto.1.1.0 ∙ c.requires.protected_len.2), c.requires.protected_len.0)
+    (in_frame _ (refl, tt) (c.put_ranges.auto.bits.1.0 ∙ c.requires.protected_len.2), c.requires.protected_len.0)
 
 pub returns : goal.returns
 returns c =

@@ -8,7 +8,7 @@ use Rattle.speech.proofs.decoding.accept.Goals as goal
 
 pub pack-received-requires : goal.pack-received-requires
 pack-received-requires c =
-    (omega (arith, c.take_parity.auto.1.0), gathered_binary parity_places c.args.inputs.now c.take_parity.ensures)
+    (omega (arith, c.take_parity.auto.parity), gathered_binary parity_places c.args.inputs.now c.take_parity.ensures)
 
 pub returns-then-received-remainder : goal.returns-then-received-remainder
 returns-then-received-remainder c =

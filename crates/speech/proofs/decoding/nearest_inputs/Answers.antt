@@ -8,7 +8,7 @@ terminated-requires c =
     (
       omega (arith, c.requires.2),
       omega (arith, c.requires.2),
-      omega (arith, c.requires.2, c.take_protected.auto.1.0),
+      omega (arith, c.requires.2, c.take_protected.auto.protected),
       protected_binary c.args.frame.now c.take_protected.ensures c.requires.1,
     )
 

@@ -19,7 +19,7 @@ returns-then-found c =
 pub copy_range-requires : goal.copy_range-requires
 copy_range-requires c =
     let passed = decode_passed c.args.frame.now (length c.args.class_one_lem.now) (length c.args.class_two_lem.now) c.requires in
-    (omega (arith, c.nearest_inputs-found.auto.1.0), omega (arith, passed.1))
+    (omega (arith, c.nearest_inputs-found.auto.inputs), omega (arith, passed.1))
 
 pub take_class_two-requires : goal.take_class_two-requires
 take_class_two-requires c =
@@ -28,9 +28,9 @@ take_class_two-requires c =
 
 pub accept-requires : goal.accept-requires
 accept-requires c =
-    (c.nearest_inputs-found.auto.1.0, inputs_binary c.nearest_inputs-found.ensures)
+    (c.nearest_inputs-found.auto.inputs, inputs_binary c.nearest_inputs-found.ensures)
 
 pub returns : goal.returns
 returns c =
     let passed = decode_passed c.args.frame.now (length c.args.class_one_lem.now) (length c.args.class_two_lem.now) c.requires in
-    settled_end c.args.frame.now c.args.class_one_lem.now c.args.class_two_lem.now c.nearest_inputs-found.ensures c.if-found.false (copied_out c.nearest_inputs-found.new.1.0 c.args.class_one_lem.now passed.1 c.copy_range.ensures) c.take_class_two.ensures c.accept.ensures
+    settled_end c.args.frame.now c.args.class_one_lem.now c.args.class_two_lem.now c.nearest_inputs-found.ensures c.if-found.false (copied_out c.nearest_inputs-found.new.inputs c.args.class_one_lem.now passed.1 c.copy_range.ensures) c.take_class_two.ensures c.accept.ensures

@@ -12,7 +12,7 @@ use Rattle.speech.proofs.encoding.fill_frame.Goals as goal
 pub merge-requires : goal.merge-requires
 merge-requires c =
     let sent = coded dcch (memory_high 0) (inputs_of (bits c.args.class_one_lem.now)) in (
-      (c.encode_class_one.auto.1.0, c.requires.class_one_len.1, c.requires.class_one_len.2),
+      (c.encode_class_one.auto.protected, c.requires.class_one_len.1, c.requires.class_one_len.2),
       (ap all_binary c.encode_class_one.ensures ∙ binary_bytes sent, c.requires.class_one_value.1),
     )
 

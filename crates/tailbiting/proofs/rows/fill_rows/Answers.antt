@@ -23,10 +23,11 @@ loop-step-init c = (refl, filling_none refl)
 
 pub step_row-row-requires : goal.step_row-row-requires
 step_row-row-requires c =
-    let erasable = c.requires.2 in (
-      (below_at 3 _ erasable _ (omega arith), below_at 3 _ erasable _ (omega arith), below_at 3 _ erasable _ (omega arith), below_at 3 _ erasable _ (omega arith)),
-      (c.outputs-p.ensures, c.outputs-q.ensures, c.outputs-r.ensures, c.outputs-s.ensures),
-    )
+    let erasable = c.requires.2 in
+    record {
+      first_bound = (below_at 3 _ erasable _ (omega arith), below_at 3 _ erasable _ (omega arith), below_at 3 _ erasable _ (omega arith), below_at 3 _ erasable _ (omega arith));
+      outputs_to = (c.outputs-p.ensures, c.outputs-q.ensures, c.outputs-r.ensures, c.outputs-s.ensures);
+    }
 
 pub bounds-rows-step : goal.bounds-rows-step
 bounds-rows-step c = omega (arith, c.loop-step.invariant.1.size)

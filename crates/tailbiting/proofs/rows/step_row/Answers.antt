@@ -11,16 +11,16 @@ pub loop-place-init : goal.loop-place-init
 loop-place-init c = filling_none refl
 
 pub erased_differs-requires : goal.erased_differs-requires
-erased_differs-requires c = (output_below _ _ _ (c.requires.1.0 _ (omega arith)), omega arith)
+erased_differs-requires c = (output_below _ _ _ (c.requires.outputs_to.0 _ (omega arith)), omega arith)
 
 pub erased_differs-requires-in-loop-place : goal.erased_differs-requires-in-loop-place
-erased_differs-requires-in-loop-place c = (output_below _ _ _ (c.requires.1.1 _ (omega arith)), omega arith)
+erased_differs-requires-in-loop-place c = (output_below _ _ _ (c.requires.outputs_to.1 _ (omega arith)), omega arith)
 
 pub erased_differs-requires-in-loop-place-2 : goal.erased_differs-requires-in-loop-place-2
-erased_differs-requires-in-loop-place-2 c = (output_below _ _ _ (c.requires.1.2 _ (omega arith)), omega arith)
+erased_differs-requires-in-loop-place-2 c = (output_below _ _ _ (c.requires.outputs_to.2 _ (omega arith)), omega arith)
 
 pub erased_differs-requires-in-loop-place-3 : goal.erased_differs-requires-in-loop-place-3
-erased_differs-requires-in-loop-place-3 c = (output_below _ _ _ (c.requires.1.3 _ (omega arith)), omega arith)
+erased_differs-requires-in-loop-place-3 c = (output_below _ _ _ (c.requires.outputs_to.3 _ (omega arith)), omega arith)
 
 pub bounds-row-place : goal.bounds-row-place
 bounds-row-place c = omega (arith, c.loop-place.invariant.size)
@@ -32,10 +32,10 @@ loop-place-preserved c =
     filling_more c.loop-place.invariant _ (omega arith)
     (omega (
       arith,
-      place_cost erased_differ _ place _ _ _ (pre.1.0 place (omega arith)) c.erased_differs.ensures.0,
-      place_cost erased_differ _ place _ _ _ (pre.1.1 place (omega arith)) c.erased_differs-in-loop-place.ensures.0,
-      place_cost erased_differ _ place _ _ _ (pre.1.2 place (omega arith)) c.erased_differs-in-loop-place-2.ensures.0,
-      place_cost erased_differ _ place _ _ _ (pre.1.3 place (omega arith)) c.erased_differs-in-loop-place-3.ensures.0,
+      place_cost erased_differ _ place _ _ _ (pre.outputs_to.0 place (omega arith)) c.erased_differs.ensures.0,
+      place_cost erased_differ _ place _ _ _ (pre.outputs_to.1 place (omega arith)) c.erased_differs-in-loop-place.ensures.0,
+      place_cost erased_differ _ place _ _ _ (pre.outputs_to.2 place (omega arith)) c.erased_differs-in-loop-place-2.ensures.0,
+      place_cost erased_differ _ place _ _ _ (pre.outputs_to.3 place (omega arith)) c.erased_differs-in-loop-place-3.ensures.0,
     ))
 
 pub returns : goal.returns

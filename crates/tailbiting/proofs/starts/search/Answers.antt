@@ -12,10 +12,11 @@ loop-turn-init c =
 pub visit-best-requires : goal.visit-best-requires
 visit-best-requires c =
     let loop = c.loop-turn in
-    (
-      (c.requires.0, c.requires.1, loop.invariant.1),
-      ((c.lowest-first.ensures, omega arith, c.lower_bounds-bounds.ensures), loop.invariant.2),
-    )
+    record {
+      symbols_len = (c.requires.0, c.requires.1, loop.invariant.1);
+      first_bound = (c.lowest-first.ensures, omega arith, c.lower_bounds-bounds.ensures);
+      found = loop.invariant.2;
+    }
 
 pub loop-turn-preserved : goal.loop-turn-preserved
 loop-turn-preserved c = (omega arith, search rules, c.visit-best.ensures)
