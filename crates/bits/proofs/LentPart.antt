@@ -1,5 +1,5 @@
 -- The first n elements of a list, lent to a call: their number, what they become, and the whole after it. Assumes nothing.
-use mathlib.Core.Path.{◌≡◌, sym, ap₂, subst, ◌∙◌}
+use mathlib.Core.Path.{◌≡◌, sym, ap, ap₂, subst, ◌∙◌}
 use mathlib.Core.List.{List, ◌++◌, append-nil}
 use Prim.Native.Nat.{ℕ, ◌≤◌}
 use native.Mathlib.Omega.{arith}
@@ -25,3 +25,8 @@ pub copied_over : {A : Type 0} (source stood : List A) {now : List A} → length
     → now ≡ take (length source) source ++ drop (length source) stood
 copied_over source stood same e =
     e ∙ sym (ap₂ (λ (a b : List _). a ++ b) (take-length source) (drop_of_length-le stood {i = length source} (omega arith)) ∙ append-nil source)
+
+-- a list that was copied over the first places of another
+pub copied_front : {A : Type 0} (source stood : List A) {part : List A} → part ≡ source
+    → part ++ drop (length source) stood ≡ take (length source) source ++ drop (length source) stood
+copied_front source stood e = ap (λ (a : List _). a ++ drop (length source) stood) (e ∙ sym (take-length source))

@@ -24,7 +24,7 @@ fn fill_inputs(information: &[u8], checksum: u16, inputs: &mut [u8])
     ensures { inputs.new ≡ bytes (inputs_of (bits information.now) checksum) }
 {
     let n = information.len();
-    inputs[0..n].copy_from_slice(information);
+    inputs[..n].copy_from_slice(information);
     unpack(checksum as u64, &mut inputs[n..n + 16]);
 }
 

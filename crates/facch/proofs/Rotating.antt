@@ -1,5 +1,5 @@
 -- `rotate`: the last five inputs, then the first sixty. Assumes nothing.
-use mathlib.Core.Path.{◌≡◌, ap, ap₂, ◌∙◌}
+use mathlib.Core.Path.{◌≡◌, sym, ap, ap₂, ◌∙◌}
 use mathlib.Core.List.{List, [], ◌++◌, append-nil}
 use Prim.Native.Nat.{ℕ, ◌≤◌}
 use native.Mathlib.Omega.{arith}
@@ -15,7 +15,13 @@ module _ (inputs word : List ℕ) (size : length inputs ≡ 65) (room : length w
   five : length (drop 60 inputs) ≡ 5
   five = omega (arith, length-drop 60 inputs)
 
-  -- the first copy
+  -- the first copy, over the first five places
+  pub copied_five : {part : List ℕ} → part ≡ take 5 (drop 60 inputs)
+      → part ++ drop 5 word ≡ take (length (take 5 (drop 60 inputs))) (take 5 (drop 60 inputs)) ++ drop (length (take 5 (drop 60 inputs))) word
+  copied_five {part} e =
+      let n : length (take 5 (drop 60 inputs)) ≡ 5 = length-take-le 5 (drop 60 inputs) (omega (arith, five)) in
+      ap₂ (λ (a : List ℕ) (k : ℕ). a ++ drop k word) (e ∙ sym (take-length (take 5 (drop 60 inputs)))) (sym n)
+
   module _ {after : List ℕ} (e : after ≡ take (length (take 5 (drop 60 inputs))) (take 5 (drop 60 inputs)) ++ drop (length (take 5 (drop 60 inputs))) word) where
     after_is : after ≡ drop 60 inputs ++ drop 5 word
     after_is =
@@ -28,7 +34,7 @@ module _ (inputs word : List ℕ) (size : length inputs ≡ 65) (room : length w
     rest : length (drop 5 after) ≡ 60
     rest = ap length back ∙ omega (arith, length-drop 5 word)
 
-    pub asks_rest : length (take 60 inputs) ≤ length (take 60 (drop 5 after))
+    pub asks_rest : length (take 60 (drop 5 after)) ≡ length (take 60 inputs)
     asks_rest = omega (arith, sixty, length-take-le 60 (drop 5 after) (omega (arith, rest)))
 
     -- the second

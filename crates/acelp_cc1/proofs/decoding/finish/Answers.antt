@@ -8,7 +8,7 @@ use Rattle.acelp_cc1.proofs.Restoring.{sorted_binary, accepted_end}
 use Rattle.acelp_cc1.proofs.decoding.finish.Goals as goal
 
 pub slice_bounds-checksum7_of_bits-end : goal.slice_bounds-checksum7_of_bits-end
-slice_bounds-checksum7_of_bits-end c = part_length 48 c.restore.new.frame.1.0 (omega arith)
+slice_bounds-checksum7_of_bits-end c = part_length 48 c.restore.new.sorted (omega arith)
 
 pub checksum7_of_bits-checksum-requires : goal.checksum7_of_bits-checksum-requires
 checksum7_of_bits-checksum-requires c = binary_take 48 _ (sorted_binary _ _ c.restore.ensures)

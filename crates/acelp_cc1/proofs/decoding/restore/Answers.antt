@@ -18,4 +18,4 @@ gather-requires c =
 pub returns : goal.returns
 returns c =
     restored c.args.inputs.now c.requires.1 c.args.frame.now c.args.sorted.now c.requires.3 (omega arith)
-    c.information_positions-information.ensures c.gather.auto.from.1.0 c.gather.ensures c.copy_end.ensures
+    c.information_positions-information.ensures c.gather.auto.to c.gather.ensures c.copy_end.ensures

@@ -4,4 +4,4 @@ use Rattle.acelp_cc1.proofs.places.copy_end.Goals as goal
 
 pub returns : goal.returns
 returns c =
-    copied_end c.args.from.now c.args.to.now _ _ c.requires.2 c.copy.ensures.1
+    copied_end c.args.from.now c.args.to.now _ _ c.requires.2 (copied_over _ _ ? c.copy_from_slice.ensures.after)

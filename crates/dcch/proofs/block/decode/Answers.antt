@@ -27,21 +27,21 @@ pub slice_bounds-word-end-2 : goal.slice_bounds-word-end-2
 slice_bounds-word-end-2 c =
     whole_length _ _
     (half_within c.args.format c.args.block.now c.args.dvcc c.args.mode c.args.information.now c.decode_arguments-ready.ensures c.in_default.is _ c.encoded_bits-steps.ensures)
-    c.nearest_word-corrected.new.block.1.0 c.nearest_word-corrected.auto.block.1.0
+    c.nearest_word-corrected.new.word c.nearest_word-corrected.auto.word
 
 pub slice_bounds-finish-end : goal.slice_bounds-finish-end
 slice_bounds-finish-end c =
     part_length _ _
-    (whole_length _ _ (half_within c.args.format c.args.block.now c.args.dvcc c.args.mode c.args.information.now c.decode_arguments-ready.ensures c.in_default.is _ c.encoded_bits-steps.ensures) c.nearest_word-corrected.new.block.1.0 c.nearest_word-corrected.auto.block.1.0)
+    (whole_length _ _ (half_within c.args.format c.args.block.now c.args.dvcc c.args.mode c.args.information.now c.decode_arguments-ready.ensures c.in_default.is _ c.encoded_bits-steps.ensures) c.nearest_word-corrected.new.word c.nearest_word-corrected.auto.word)
 
 pub finish-requires : goal.finish-requires
 finish-requires c =
     asks_finish c.args.format c.args.block.now c.args.dvcc c.args.mode c.args.information.now
     c.decode_arguments-ready.ensures c.in_default.is _ c.encoded_bits-steps.ensures _
-    c.nearest_word-corrected.auto.block.1.0 c.nearest_word-corrected.ensures
+    c.nearest_word-corrected.auto.word c.nearest_word-corrected.ensures
 
 pub returns : goal.returns
 returns c =
     settled_end c.args.format c.args.block.now c.args.dvcc c.args.mode c.args.information.now
     c.decode_arguments-ready.ensures c.in_default.is _ c.encoded_bits-steps.ensures _
-    c.nearest_word-corrected.auto.block.1.0 c.nearest_word-corrected.ensures c.finish.ensures
+    c.nearest_word-corrected.auto.word c.nearest_word-corrected.ensures c.finish.ensures

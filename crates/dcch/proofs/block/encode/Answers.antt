@@ -26,21 +26,21 @@ pub slice_bounds-cells-end-2 : goal.slice_bounds-cells-end-2
 slice_bounds-cells-end-2 c =
     whole_length _ _
     (within c.args.format c.args.information.now c.args.dvcc c.args.mode c.args.block.now c.encode_arguments-ready.ensures c.in_default.is _ c.encoded_bits-bits.ensures)
-    c.encode_cells.new.dvcc.1.1.0 c.encode_cells.auto.dvcc.1.1.0
+    c.encode_cells.new.cells c.encode_cells.auto.cells
 
 pub slice_bounds-interleave-end : goal.slice_bounds-interleave-end
 slice_bounds-interleave-end c =
     part_length _ _
-    (whole_length _ _ (within c.args.format c.args.information.now c.args.dvcc c.args.mode c.args.block.now c.encode_arguments-ready.ensures c.in_default.is _ c.encoded_bits-bits.ensures) c.encode_cells.new.dvcc.1.1.0 c.encode_cells.auto.dvcc.1.1.0)
+    (whole_length _ _ (within c.args.format c.args.information.now c.args.dvcc c.args.mode c.args.block.now c.encode_arguments-ready.ensures c.in_default.is _ c.encoded_bits-bits.ensures) c.encode_cells.new.cells c.encode_cells.auto.cells)
 
 pub interleave-requires : goal.interleave-requires
 interleave-requires c =
     asks_interleave c.args.format c.args.information.now c.args.dvcc c.args.mode c.args.block.now
     c.encode_arguments-ready.ensures c.in_default.is _ c.encoded_bits-bits.ensures
-    c.encode_cells.new.dvcc.1.1.0 c.encode_cells.auto.dvcc.1.1.0
+    c.encode_cells.new.cells c.encode_cells.auto.cells
 
 pub returns : goal.returns
 returns c =
     done_end c.args.format c.args.information.now c.args.dvcc c.args.mode c.args.block.now
     c.encode_arguments-ready.ensures c.in_default.is _ c.encoded_bits-bits.ensures _
-    c.encode_cells.auto.dvcc.1.1.0 c.encode_cells.ensures c.interleave.ensures
+    c.encode_cells.auto.cells c.encode_cells.ensures c.interleave.ensures

@@ -11,17 +11,17 @@ pub fill_inputs-requires : goal.fill_inputs-requires
 fill_inputs-requires c = asks_fill c.args.information.now c.requires.0 c.requires.1
 
 pub slice_bounds-inputs-end-2 : goal.slice_bounds-inputs-end-2
-slice_bounds-inputs-end-2 c = whole_length _ _ (omega arith) c.fill_inputs.new.checksum.1.0 c.fill_inputs.auto.checksum.1.0
+slice_bounds-inputs-end-2 c = whole_length _ _ (omega arith) c.fill_inputs.new.inputs c.fill_inputs.auto.inputs
 
 pub slice_bounds-convolutional_encode-end : goal.slice_bounds-convolutional_encode-end
-slice_bounds-convolutional_encode-end c = part_length _ _ (whole_length _ _ (omega arith) c.fill_inputs.new.checksum.1.0 c.fill_inputs.auto.checksum.1.0)
+slice_bounds-convolutional_encode-end c = part_length _ _ (whole_length _ _ (omega arith) c.fill_inputs.new.inputs c.fill_inputs.auto.inputs)
 
 pub convolutional_encode-requires : goal.convolutional_encode-requires
 convolutional_encode-requires c =
     let filled = c.fill_inputs in
-    asks_encode c.args.information.now c.requires.0 c.requires.1 c.args.dvcc c.args.mode _ _ filled.auto.checksum.1.0 filled.ensures c.args.cells.now c.requires.2
+    asks_encode c.args.information.now c.requires.0 c.requires.1 c.args.dvcc c.args.mode _ _ filled.auto.inputs filled.ensures c.args.cells.now c.requires.2
 
 pub returns : goal.returns
 returns c =
     let filled = c.fill_inputs in
-    cells_coded c.args.information.now c.requires.0 c.requires.1 c.args.dvcc c.args.mode _ _ filled.auto.checksum.1.0 filled.ensures c.sent_checksum-checksum.ensures c.convolutional_encode.ensures
+    cells_coded c.args.information.now c.requires.0 c.requires.1 c.args.dvcc c.args.mode _ _ filled.auto.inputs filled.ensures c.sent_checksum-checksum.ensures c.convolutional_encode.ensures

@@ -2,10 +2,10 @@
 use mathlib.Core.Bool.{not}
 use mathlib.Core.Path.{ap}
 use native.Mathlib.Omega.{arith}
-use lib.ListN.{length}
+use lib.ListN.{length, take}
 use lib.Seq.{length-take-le}
 use Rattle.bits.proofs.Binary.{binary_take}
-use Rattle.bits.proofs.LentPart.{part_length}
+use Rattle.bits.proofs.LentPart.{part_length, copied_over}
 use Rattle.dcch.proofs.Finishing.{failed_end, taken_end}
 use borrow.Author.Rules.{rules}
 use Rattle.dcch.proofs.block.finish.Goals as goal
@@ -29,4 +29,4 @@ copy_from_slice-requires c =
 
 pub returns : goal.returns
 returns c =
-    taken_end c.args.inputs.now c.args.information.now c.requires.0 c.requires.1 _ _ _ c.sent_checksum-checksum.ensures c.carries-right.ensures (ap not c.if-not-right.false) c.copy.ensures.1
+    taken_end c.args.inputs.now c.args.information.now c.requires.0 c.requires.1 _ _ _ c.sent_checksum-checksum.ensures c.carries-right.ensures (ap not c.if-not-right.false) (copied_over (take (length c.args.information.now) c.args.inputs.now) c.args.information.now (part_length _ _ (omega arith)) c.copy_from_slice.ensures.after)

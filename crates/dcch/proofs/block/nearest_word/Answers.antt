@@ -17,19 +17,19 @@ deinterleave-requires c =
 pub slice_bounds-cells-end-2 : goal.slice_bounds-cells-end-2
 slice_bounds-cells-end-2 c =
     whole_length _ _ (within c.args.format c.args.block.now c.requires.0 _ c.encoded_bits-bits.ensures)
-    c.deinterleave.new.wires.1.0 c.deinterleave.auto.wires.1.0
+    c.deinterleave.new.cells c.deinterleave.auto.cells
 
 pub slice_bounds-terminated-end : goal.slice_bounds-terminated-end
 slice_bounds-terminated-end c =
     part_length _ _
-    (whole_length _ _ (within c.args.format c.args.block.now c.requires.0 _ c.encoded_bits-bits.ensures) c.deinterleave.new.wires.1.0 c.deinterleave.auto.wires.1.0)
+    (whole_length _ _ (within c.args.format c.args.block.now c.requires.0 _ c.encoded_bits-bits.ensures) c.deinterleave.new.cells c.deinterleave.auto.cells)
 
 pub terminated-found-requires : goal.terminated-found-requires
 terminated-found-requires c =
     asks_search c.args.format c.args.block.now c.requires.0 _ c.encoded_bits-bits.ensures _
-    c.deinterleave.auto.wires.1.0 c.deinterleave.ensures c.args.word.now c.requires.2
+    c.deinterleave.auto.cells c.deinterleave.ensures c.args.word.now c.requires.2
 
 pub returns : goal.returns
 returns c =
-    found c.args.format c.args.block.now c.requires.0 _ c.encoded_bits-bits.ensures _ c.deinterleave.auto.wires.1.0
+    found c.args.format c.args.block.now c.requires.0 _ c.encoded_bits-bits.ensures _ c.deinterleave.auto.cells
     c.deinterleave.ensures c.args.word.now c.requires.2 c.terminated-found.ensures

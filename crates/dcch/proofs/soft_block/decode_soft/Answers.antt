@@ -34,23 +34,23 @@ pub slice_bounds-cells-end-2 : goal.slice_bounds-cells-end-2
 slice_bounds-cells-end-2 c =
     whole_length _ _
     (within c.args.format c.args.block.now c.args.dvcc c.args.mode c.args.information.now c.soft_arguments-ready.ensures c.in_default.is c.all_finite.ensures _ c.encoded_bits-bits.ensures)
-    c.deinterleave_soft.new.wires.1.0 c.deinterleave_soft.auto.wires.1.0
+    c.deinterleave_soft.new.cells c.deinterleave_soft.auto.cells
 
 pub slice_bounds-search_cells-end : goal.slice_bounds-search_cells-end
 slice_bounds-search_cells-end c =
     part_length _ _
-    (whole_length _ _ (within c.args.format c.args.block.now c.args.dvcc c.args.mode c.args.information.now c.soft_arguments-ready.ensures c.in_default.is c.all_finite.ensures _ c.encoded_bits-bits.ensures) c.deinterleave_soft.new.wires.1.0 c.deinterleave_soft.auto.wires.1.0)
+    (whole_length _ _ (within c.args.format c.args.block.now c.args.dvcc c.args.mode c.args.information.now c.soft_arguments-ready.ensures c.in_default.is c.all_finite.ensures _ c.encoded_bits-bits.ensures) c.deinterleave_soft.new.cells c.deinterleave_soft.auto.cells)
 
 pub search_cells-requires : goal.search_cells-requires
 search_cells-requires c =
     asks_cells c.args.format c.args.block.now c.args.dvcc c.args.mode c.args.information.now
     c.soft_arguments-ready.ensures c.in_default.is c.all_finite.ensures _ c.encoded_bits-bits.ensures _
-    refl c.deinterleave_soft.new.wires.1.0 c.deinterleave_soft.auto.wires.1.0
+    refl c.deinterleave_soft.new.cells c.deinterleave_soft.auto.cells
     c.deinterleave_soft.ensures (ap not c.if-not-all_finite.false)
 
 pub returns : goal.returns
 returns c =
     settled_end c.args.format c.args.block.now c.args.dvcc c.args.mode c.args.information.now
     c.soft_arguments-ready.ensures c.in_default.is c.all_finite.ensures _ c.encoded_bits-bits.ensures _
-    refl c.deinterleave_soft.new.wires.1.0 c.deinterleave_soft.auto.wires.1.0
+    refl c.deinterleave_soft.new.cells c.deinterleave_soft.auto.cells
     c.deinterleave_soft.ensures (ap not c.if-not-all_finite.false) c.search_cells.ensures

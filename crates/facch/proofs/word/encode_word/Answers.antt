@@ -17,8 +17,8 @@ slice_bounds-convolutional_encode-end-4 c =
 
 pub convolutional_encode-requires : goal.convolutional_encode-requires
 convolutional_encode-requires c =
-    asks_first c.args.word.now c.args.coded.now c.requires.0 c.requires.1 c.requires.2 c.convolutional_encode-memory.new.input.1.0 c.convolutional_encode-memory.auto.input.1.0 (omega (arith, c.convolutional_encode-memory.ensures.below, c.start_memory-start.ensures.0))
+    asks_first c.args.word.now c.args.coded.now c.requires.0 c.requires.1 c.requires.2 c.convolutional_encode-memory.new.coded c.convolutional_encode-memory.auto.coded (omega (arith, c.convolutional_encode-memory.ensures.below, c.start_memory-start.ensures.0))
 
 pub returns : goal.returns
 returns c =
-    bitten c.args.word.now c.args.coded.now c.requires.0 c.requires.1 c.requires.2 c.convolutional_encode-memory.new.input.1.0 c.convolutional_encode-memory.auto.input.1.0 c.start_memory-start.ensures.1 c.convolutional_encode-memory.ensures c.convolutional_encode.ensures
+    bitten c.args.word.now c.args.coded.now c.requires.0 c.requires.1 c.requires.2 c.convolutional_encode-memory.new.coded c.convolutional_encode-memory.auto.coded c.start_memory-start.ensures.1 c.convolutional_encode-memory.ensures c.convolutional_encode.ensures

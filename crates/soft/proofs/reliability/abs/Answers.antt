@@ -11,7 +11,7 @@ returns-then-x c = abs_negative c.args.x c.if-x.true
 
 pub returns-then-x-2 : goal.returns-then-x-2
 unfolding of_bits
-returns-then-x-2 c = abs_zero binary64 c.args.x (let h = c.well_formed in ?) c.if-x-2.true
+returns-then-x-2 c = abs_zero binary64 c.args.x (subst T (sym c.well_formed.0.1) tt) c.if-x-2.true
 
 pub returns : goal.returns
 unfolding of_bits

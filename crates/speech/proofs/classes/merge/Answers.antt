@@ -11,10 +11,10 @@ put_ranges-requires c = (in_frame _ (refl, tt) c.requires.protected_len.2, c.req
 pub put_ranges-requires-2 : goal.put_ranges-requires-2
 unfolding total_of inside
 put_ranges-requires-2 c =
-    (in_frame _ (refl, tt) (c.put_ranges.auto.bits.1.0 ∙ c.requires.protected_len.2), c.requires.protected_len.0)
+    (in_frame _ (refl, tt) (c.put_ranges.auto.list ∙ c.requires.protected_len.2), c.requires.protected_len.0)
 
 pub returns : goal.returns
 returns c =
     c.put_ranges-2.ensures
     ∙ ap (put_ranges between c.args.protected.now) c.put_ranges.ensures
-    ∙ merged c.args.protected.now c.args.class_two_lem.now c.args.frame.now c.requires.protected_len c.requires.protected_value
+    ∙ merged c.args.protected.now c.args.class_two.now c.args.frame.now c.requires.protected_len c.requires.protected_value

@@ -10,8 +10,8 @@ pub returns : goal.returns
 returns c =
     let entry = c.args in
     let frame = entry.frame.now in
-    let one = exact_of 77 entry.room-one in
-    let two = exact_of 82 entry.room-two in
+    let one = exact_of 77 entry.room_one in
+    let two = exact_of 82 entry.room_two in
     c.then_bits.ensures
     ∙ ap (λ (x : Arguments). first_refusal x (binary_of frame))
     (c.first_refusal-lengths.ensures

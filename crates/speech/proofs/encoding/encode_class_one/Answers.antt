@@ -12,7 +12,7 @@ use Rattle.speech.proofs.encoding.encode_class_one.Goals as goal
 
 pub convolutional_encode-requires : goal.convolutional_encode-requires
 convolutional_encode-requires c =
-    let one = bits c.args.class_one_lem.now in
+    let one = bits c.args.class_one.now in
     let filled = c.fill_inputs.ensures in (
       omega arith,
       omega (arith, c.requires.2, ap length filled ∙ length-map (inputs_of one) byte ∙ inputs_length one),
@@ -23,4 +23,4 @@ pub returns : goal.returns
 returns c =
     c.convolutional_encode.ensures.bits
     ∙ ap (λ l. bytes (coded dcch (memory_high 0) (bits l))) c.fill_inputs.ensures
-    ∙ ap (λ u. bytes (coded dcch (memory_high 0) u)) (bits-bytes (inputs_of (bits c.args.class_one_lem.now)))
+    ∙ ap (λ u. bytes (coded dcch (memory_high 0) u)) (bits-bytes (inputs_of (bits c.args.class_one.now)))

@@ -10,13 +10,13 @@ copy_range-requires c = (omega arith, omega (arith, ap length c.requires.2))
 
 pub checksum-remainder-requires : goal.checksum-remainder-requires
 checksum-remainder-requires c =
-    (one_length c.args.class_one_lem.now c.requires.0 c.requires.1 c.requires.2 c.copy_range.ensures, one_binary c.args.class_one_lem.now c.requires.0 c.requires.1 c.requires.2 c.copy_range.ensures)
+    (one_length c.args.class_one.now c.requires.0 c.requires.1 c.requires.2 c.copy_range.ensures, one_binary c.args.class_one.now c.requires.0 c.requires.1 c.requires.2 c.copy_range.ensures)
 
 pub put_parity-requires : goal.put_parity-requires
 put_parity-requires c =
-    ((parity_bytes _ c.unpack.ensures).0, (parity_bytes _ c.unpack.ensures).1, one_length c.args.class_one_lem.now c.requires.0 c.requires.1 c.requires.2 c.copy_range.ensures)
+    ((parity_bytes _ c.unpack.ensures).0, (parity_bytes _ c.unpack.ensures).1, one_length c.args.class_one.now c.requires.0 c.requires.1 c.requires.2 c.copy_range.ensures)
 
 pub returns : goal.returns
 returns c =
-    inputs_filled c.args.class_one_lem.now c.requires.0 c.requires.1 c.requires.2 c.copy_range.ensures c.checksum-remainder.ensures
+    inputs_filled c.args.class_one.now c.requires.0 c.requires.1 c.requires.2 c.copy_range.ensures c.checksum-remainder.ensures
     c.unpack.ensures c.put_parity.ensures
