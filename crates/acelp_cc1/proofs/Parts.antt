@@ -4,7 +4,7 @@ use mathlib.Core.List.{List, [], ◌++◌, append-nil}
 use Prim.Native.Nat.{ℕ, ◌-◌}
 use native.Mathlib.Omega.{arith}
 use lib.ListN.{length, take, drop, length-take, length-drop, drop_of_length-le}
-use lib.Seq.{take-length, take_all}
+use lib.Seq.{length-take-le, take-length, take_all}
 use borrow.Rule.Slice.PartMut.{put_mid}
 
 module _ (from to : List ℕ) (start at : ℕ) (room : length from - start ≡ length to - at) where
@@ -13,6 +13,15 @@ module _ (from to : List ℕ) (start at : ℕ) (room : length from - start ≡ l
 
   all : source ≡ drop start from
   all = take_all (length from - start) (drop start from) (omega (arith, length-drop start from))
+
+  pub same_room : length (take (length to - at) (drop at to)) ≡ length source
+  same_room =
+      omega (
+        arith,
+        length-take-le (length to - at) (drop at to) (omega (arith, length-drop at to)),
+        length-take-le (length from - start) (drop start from) (omega (arith, length-drop start from)),
+        room,
+      )
 
   pub copied_end : {part : List ℕ} → part ≡ take (length source) source ++ drop (length source) (take (length to - at) (drop at to))
       → put_mid at (length to - at) to part ≡ take at to ++ drop start from

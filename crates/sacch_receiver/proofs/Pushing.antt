@@ -31,10 +31,9 @@ tried_now r dvcc h t e a b =
 
 -- ---- a step
 -- an outcome that is Pending or a refusal is no row
-pub not_row : (o : RowOutcome) → (tag_of the_type o ≡ 0) ⊎ (tag_of the_type o ≡ 2) → (row : ℕ) → row_answer o ≢ push.accepted row
+pub not_row : (o : RowOutcome) → ((x : ℕ) → o ≢ outcome.Row x) → (row : ℕ) → row_answer o ≢ push.accepted row
 not_row outcome.Pending t row e = let z : ◌≡◌ {A = ℕ} 0 1 = cc in omega arith
-not_row (outcome.Row x) (inl t) row e = omega arith
-not_row (outcome.Row x) (inr t) row e = omega arith
+not_row (outcome.Row x) t row e = absurd (t x refl)
 not_row (outcome.Refused why) t row e = let z : ◌≡◌ {A = ℕ} 0 1 = cc in omega arith
 
 -- what the deinterleaver answers: no row, or one

@@ -19,7 +19,7 @@ pub returns-in_default : goal.returns-in_default
 returns-in_default c =
     let a = c.args in
     step_missing a.self a.field a.dvcc c.deinterleaver_of.ensures c.with_field-held.ensures c.with_fields-stored.ensures
-    c.row_found-found.ensures (not_row c.row_found-found.result c.in-Row.keys2)
+    c.row_found-found.ensures (not_row c.row_found-found.result c.in_default.not-Row)
 
 pub with_row-requires : goal.with_row-requires
 unfolding with_fields
