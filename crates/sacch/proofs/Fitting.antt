@@ -49,7 +49,7 @@ encoded_fits {e} six f = record { fit = encoder.fit_encoded e six f.fit; rows_le
 pub all_fit : {e : SacchEncoder} (sixes : List ℕ) → FittingEncoder e → FittingEncoder (encoded_all e sixes)
 unfolding encoded_all
 all_fit [] f = f
-all_fit (six ∷ sixes) f = all_fit sixes (encoded_fits six f)
+all_fit {e = e} (six ∷ sixes) f = all_fit {e = encoded e six} sixes (encoded_fits six f)
 
 -- ---- the receiver, with the lengths that its arrays have
 pub record Fitting (r : SacchReceiver) : Type 0 where

@@ -6,4 +6,4 @@ use Rattle.flat_dcch.proofs.decode.Goals as goal
 pub returns : goal.returns
 returns c =
     let entry = c.args in
-    decoded_flat (λ m. Decoding entry.format entry.block.now entry.dvcc m entry.information.now c.decode.new.information) c.decode.result c.mode_of.ensures c.decode.ensures c.flat_decoded.ensures
+    decoded_flat (λ m. Decoding entry.format entry.block.now entry.dvcc m entry.information.now c.decode.new.information) c.decode.result c.mode_of-mode.ensures c.decode.ensures c.flat_decoded.ensures

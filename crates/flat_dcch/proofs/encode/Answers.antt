@@ -6,4 +6,4 @@ use Rattle.flat_dcch.proofs.encode.Goals as goal
 pub returns : goal.returns
 returns c =
     let entry = c.args in
-    encoded_flat (λ m. Encoding entry.format entry.information.now entry.dvcc m entry.block.now c.encode.new.block) c.encode.result c.mode_of.ensures c.encode.ensures c.flat_wrote.ensures
+    encoded_flat (λ m. Encoding entry.format entry.information.now entry.dvcc m entry.block.now c.encode.new.block) c.encode.result c.mode_of-mode.ensures c.encode.ensures c.flat_wrote.ensures

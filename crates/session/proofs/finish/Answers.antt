@@ -6,11 +6,14 @@ use Rattle.session.proofs.finish.Goals as goal
 
 pub put_closing-requires : goal.put_closing-requires
 put_closing-requires c =
-    let l = c.last_line.ensures in
+    let l = c.last_line-fed.ensures in
     (omega (arith, l.bounds.corrected, l.bounds.words), l.bounds.codes, omega (arith, l.room, l.text.kept, c.requires.1))
 
 pub returns : goal.returns
 returns c =
     let p = c.put_closing.ensures in
-    let l = c.last_line.ensures in
-    (finished c.last_line.result l p.0, omega (arith, p.0.kept, p.1, l.room, l.text.kept, c.requires.1))
+    let l = c.last_line-fed.ensures in
+    record {
+      put = finished c.last_line-fed.result l p.put;
+      upper_bound = omega (arith, p.put.kept, p.upper_bound, l.room, l.text.kept, c.requires.1);
+    }

@@ -15,4 +15,6 @@ loop-dvcc-preserved c =
     listing_more c.loop-dvcc.invariant c.loop-dvcc-test.true (omega arith) c.put_line-at.ensures.put c.put_line-at.ensures.upper_bound
 
 pub returns : goal.returns
-returns c = listing_done c.loop-dvcc.invariant (omega arith)
+returns c =
+    let done = listing_done c.loop-dvcc.invariant (omega arith) in
+    record { put = done.0; upper_bound = done.1 }
