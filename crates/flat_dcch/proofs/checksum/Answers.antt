@@ -10,4 +10,4 @@ pub returns : goal.returns
 returns c =
     let information = c.args.information.now in
     c.flat_checksum.ensures ∙ ap flat_checksum c.checksum.ensures
-    ∙ ap (λ m. flat_checksum (answer_for_bits information (sent_checksum (bits information) c.args.dvcc m))) c.mode_of-mode.ensures
+    ∙ ap (λ m. flat_checksum (answer_for_bits information (sent_checksum (bits information) c.args.dvcc m))) c.mode_of.ensures
