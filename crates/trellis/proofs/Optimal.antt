@@ -6,11 +6,11 @@ use Prim.Native.Nat.{ℕ, zero, suc, ◌+◌, ◌*◌, ◌≤◌, ◌<◌}
 use native.Mathlib.Omega.{arith}
 use native.Mathlib.Nat.{le_refl, suc-mul}
 use native.Mathlib.Decide.{ℕ_discrete}
-use lib.Dec.{T, ltb, eqb, leb}
+use lib.Dec.{T, ltb, leb}
 use lib.ListN.{length}
-use borrow.Author.Tests.{ltb-true, ltb-false, eqb-true, eqb-false, leb-true, lt-ltb, le-ltb, le-leb, lt-leb, eq-eqb, ne_eqb}
+use borrow.Author.Tests.{ltb-true, ltb-false, leb-true, le-leb, lt-leb, eq-eqb, ne_eqb}
 use Rattle.trellis.specs.Search.{Precedes}
-use Rattle.trellis.specs.Trellis.{Trellis, wholes, predecessor, branch_into, DifferAfter, TiedPaths, origin, path_metric, state_metric, candidate, decision, survivor, tie}
+use Rattle.trellis.specs.Trellis.{Trellis, wholes, predecessor, branch_into, DifferAfter, TiedPaths, path_metric, state_metric, candidate, decision, survivor, tie}
 
 -- the cheaper of two costs costs no more than either
 pub pick_le : (f : Bool → ℕ) (b : Bool) → f (ltb (f true) (f false)) ≤ f b

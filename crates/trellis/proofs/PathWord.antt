@@ -1,15 +1,15 @@
 -- Paths and words: a path into a state is a start and a word, and costs the start and the word's metric. Assumes nothing.
-use mathlib.Core.Path.{◌≡◌, refl, sym, ap, ap₂, subst, ◌∙◌}
-use mathlib.Core.Bool.{Bool, true, false}
+use mathlib.Core.Path.{◌≡◌, refl, sym, ap, ap₂, ◌∙◌}
+use mathlib.Core.Bool.{Bool, false}
 use mathlib.Core.List.{List, [], ◌∷◌, ◌++◌, append_assoc, append-nil}
-use Prim.Native.Nat.{ℕ, zero, suc, ◌+◌, ◌-◌, ◌*◌, ◌≤◌, ◌<◌}
+use Prim.Native.Nat.{ℕ, suc, ◌+◌, ◌-◌, ◌*◌, ◌≤◌, ◌<◌}
 use native.Mathlib.Nat.{suc-mul}
 use native.Mathlib.Omega.{arith}
 use lib.ListN.{length, take, replicate, length-replicate, length-append}
 use lib.Seq.{take-append-le, take_at}
 use Rattle.trellis.specs.Numbering.{Numbering}
 use Rattle.trellis.specs.Words.{state_after, word_metric, Leads, Terminated}
-use Rattle.trellis.specs.Trellis.{Trellis, wholes, origin, path_metric, state_metric, survivor, word}
+use Rattle.trellis.specs.Trellis.{Trellis, wholes, origin, path_metric, state_metric, word}
 use Rattle.trellis.proofs.Registers.{Register}
 use Rattle.trellis.proofs.Optimal as opt
 

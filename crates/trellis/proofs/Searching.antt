@@ -1,11 +1,11 @@
 -- Laws of what a search finds: there is one first word, and the same words with the same weights have the same answer. Assumes nothing.
 use mathlib.Core.Path.{◌≡◌, ◌∙◌}
-use mathlib.Core.Bool.{Bool, true}
+use mathlib.Core.Bool.{Bool}
 use mathlib.Core.List.{List}
 use Prim.Native.Nat.{ℕ}
 use native.Mathlib.Omega.{arith}
 use lib.ListN.{length}
-use Rattle.trellis.specs.Search.{Nearest, Ambiguous, Found, Precedes, First, FoundFirst}
+use Rattle.trellis.specs.Search.{Nearest, Ambiguous, Found, First, FoundFirst}
 use Rattle.trellis.specs.declared.Outcome.{Outcome}
 use Rattle.trellis.proofs.Order.{precedes_both}
 

@@ -1,5 +1,4 @@
 -- `acelp_interleaver::gather` meets its contract: the bits passed hold what they carry. Assumes nothing.
-use Prim.Native.Nat.{◌-◌}
 use native.Mathlib.Omega.{arith}
 use Rattle.bits.proofs.Filled.{filling_none, filling_more}
 use Rattle.acelp_interleaver.proofs.Passing.{gathering_done, third_at}

@@ -1,6 +1,5 @@
 -- `acelp_interleaver::scatter` meets its contract: the places passed hold what carries them. Assumes nothing.
 use mathlib.Core.Path.{refl}
-use Prim.Native.Nat.{◌-◌}
 use native.Mathlib.Omega.{arith}
 use Rattle.bits.proofs.Scattered.{scattering_none}
 use Rattle.acelp_interleaver.proofs.Passing.{placing_more, placing_done, third_at}

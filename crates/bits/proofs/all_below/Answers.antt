@@ -1,6 +1,5 @@
 -- `bits::all_below` meets its contract: the bytes passed were tested. Assumes nothing.
 use mathlib.Core.Path.{refl}
-use Prim.Native.Nat.{◌-◌}
 use native.Mathlib.Omega.{arith}
 use Rattle.bits.proofs.Below.{below_tests}
 use Rattle.bits.proofs.Passing.{testing_none, testing_more, testing_done}

@@ -1,6 +1,5 @@
 -- `bits::all_below` meets its contract: the bytes passed were tested. Assumes nothing.
 use mathlib.Core.Path.{◌≡◌}
-use Prim.Native.Nat.{◌-◌}
 use lib.ListN.{length}
 use Rattle.bits.specs.Bits.{all_below}
 use Rattle.bits.proofs.Passing.{Testing}

@@ -1,6 +1,5 @@
 -- `bits::pack` meets its contract: the value is the number that the bits passed write. Assumes nothing.
 use mathlib.Core.Path.{refl}
-use Prim.Native.Nat.{◌-◌}
 use native.Mathlib.Omega.{arith}
 use Rattle.bits.proofs.Binary.{binary_at}
 use Rattle.bits.proofs.Packed.{packing_none, packing_room, packing_more, packing_done}

@@ -1,6 +1,5 @@
 -- `checksums::checksum_from_bits` meets its contract: the bits left, into the register, end where all of them end. Assumes nothing.
 use mathlib.Core.Path.{sym, ◌∙◌}
-use Prim.Native.Nat.{◌-◌}
 use native.Mathlib.Omega.{arith}
 use Rattle.bits.proofs.Binary.{binary_at}
 use Rattle.checksums.proofs.Fours.{by_fours_none, by_fours_more, part_binary, by_fours_done}

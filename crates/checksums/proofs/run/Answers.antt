@@ -1,6 +1,5 @@
 -- `checksums::run` meets its contract: the bits left, into the register, end where all of them end. Assumes nothing.
 use mathlib.Core.Path.{refl}
-use Prim.Native.Nat.{◌-◌}
 use native.Mathlib.Omega.{arith}
 use Rattle.bits.proofs.Binary.{binary_at}
 use Rattle.checksums.proofs.Shifting.{running_none, running_more, running_done}

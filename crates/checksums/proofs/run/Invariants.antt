@@ -1,6 +1,5 @@
 -- `checksums::run` meets its contract: the bits left, into the register, end where all of them end. Assumes nothing.
 use mathlib.Core.Path.{◌≡◌}
-use Prim.Native.Nat.{◌-◌}
 use lib.ListN.{length}
 use Rattle.checksums.proofs.Shifting.{Running}
 use Rattle.checksums.proofs.run.Given as goal

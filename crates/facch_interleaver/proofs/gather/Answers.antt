@@ -1,6 +1,5 @@
 -- `facch_interleaver::gather` meets its contract: the bits passed hold their places' bytes. Assumes nothing.
 use mathlib.Core.Path.{refl, sym, ◌∙◌}
-use Prim.Native.Nat.{◌-◌}
 use native.Mathlib.Omega.{arith}
 use Rattle.facch_interleaver.proofs.Passing.{gathering_none, gathering_more, gathering_done, row_and_column, in_word}
 use Rattle.facch_interleaver.proofs.gather.Goals as goal

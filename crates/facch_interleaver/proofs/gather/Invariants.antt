@@ -1,6 +1,5 @@
 -- `facch_interleaver::gather` meets its contract: the bits passed hold their places' bytes. Assumes nothing.
 use mathlib.Core.Path.{◌≡◌}
-use Prim.Native.Nat.{◌-◌}
 use lib.ListN.{length}
 use Rattle.facch_interleaver.proofs.Passing.{Gathering}
 use Rattle.facch_interleaver.proofs.gather.Given as goal

@@ -1,6 +1,5 @@
 -- `facch_interleaver::spread_row` meets its contract: the columns passed stand at their places. Assumes nothing.
 use mathlib.Core.Path.{sym, ◌∙◌}
-use Prim.Native.Nat.{◌-◌}
 use native.Mathlib.Omega.{arith}
 use Rattle.facch_interleaver.proofs.Spreading.{spread_none, row_more, row_done, row_place}
 use Rattle.facch_interleaver.proofs.spread_row.Goals as goal

@@ -1,6 +1,5 @@
 -- `facch_interleaver::spread_rows` meets its contract: the rows passed stand at their places. Assumes nothing.
 use mathlib.Core.Path.{refl, sym, ◌∙◌}
-use Prim.Native.Nat.{◌-◌}
 use native.Mathlib.Omega.{arith}
 use Rattle.facch_interleaver.proofs.Spreading.{spread_none, rows_more, rows_done}
 use Rattle.facch_interleaver.proofs.spread_rows.Goals as goal

@@ -1,5 +1,4 @@
 -- `puncturing::fill_symbols` meets its contract: the steps passed have their symbols. Assumes nothing.
-use Prim.Native.Nat.{◌-◌}
 use native.Mathlib.Omega.{arith}
 use Rattle.bits.proofs.Filled.{filling_none, filling_more, filling_done}
 use Rattle.puncturing.proofs.fill_symbols.Goals as goal

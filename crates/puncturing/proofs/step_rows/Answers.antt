@@ -1,7 +1,6 @@
 -- `puncturing::step_rows` meets its contract: the rows passed are copies, and the last is left at zeros. Assumes nothing.
 use mathlib.Core.Path.{refl, ◌∙◌}
 use mathlib.Core.List.{[]}
-use Prim.Native.Nat.{◌-◌}
 use native.Mathlib.Omega.{arith}
 use lib.Seq.{get_or-set_other}
 use Rattle.bits.proofs.Filled.{filling_none, filling_more}

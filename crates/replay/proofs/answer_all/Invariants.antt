@@ -1,5 +1,5 @@
 -- `replay::answer_all` is safe and ends. Assumes nothing.
-use Rattle.std.proofs.Common.{◌≡◌, ◌-◌, length}
+use Rattle.std.proofs.Common.{◌≡◌, length}
 use Rattle.replay.proofs.answer_all.Given as goal
 
 abbrev pub invariant-loop-left : goal.invariant-loop-left

@@ -1,5 +1,5 @@
 -- `replay::sweep` is safe and ends. Assumes nothing.
-use Rattle.std.proofs.Common.{◌≡◌, ◌-◌}
+use Rattle.std.proofs.Common.{◌≡◌}
 use Rattle.replay.proofs.sweep.Given as goal
 
 abbrev pub invariant-loop-k : goal.invariant-loop-k

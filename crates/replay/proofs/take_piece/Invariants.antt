@@ -1,5 +1,5 @@
 -- `replay::take_piece` is safe and ends. Assumes nothing.
-use Rattle.std.proofs.Common.{◌≡◌, ◌-◌, ◌≤◌, length}
+use Rattle.std.proofs.Common.{◌≡◌, ◌≤◌, length}
 use Rattle.replay.proofs.take_piece.Given as goal
 
 abbrev pub invariant-loop-i : goal.invariant-loop-i

@@ -1,5 +1,4 @@
 -- `sacch_interleaver::aged` meets its contract: the places filled so far hold the ring's. Assumes nothing.
-use Prim.Native.Nat.{◌-◌}
 use native.Mathlib.Omega.{arith}
 use Rattle.sacch_interleaver.proofs.LaidOut.{laying_none, laying_more, laying_done}
 use Rattle.sacch_interleaver.proofs.aged.Goals as goal

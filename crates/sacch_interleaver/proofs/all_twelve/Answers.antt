@@ -1,6 +1,5 @@
 -- `sacch_interleaver::all_twelve` meets its contract: the numbers passed were tested. Assumes nothing.
 use mathlib.Core.Path.{refl}
-use Prim.Native.Nat.{◌-◌}
 use native.Mathlib.Omega.{arith}
 use Rattle.bits.proofs.Passing.{testing_none, testing_more, testing_done}
 use Rattle.bits.proofs.Below.{below_tests}

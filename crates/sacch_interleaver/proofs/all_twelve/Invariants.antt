@@ -1,6 +1,5 @@
 -- `sacch_interleaver::all_twelve` meets its contract: the numbers passed were tested. Assumes nothing.
 use mathlib.Core.Path.{◌≡◌}
-use Prim.Native.Nat.{◌-◌}
 use lib.ListN.{length}
 use Rattle.bits.proofs.Passing.{Testing}
 use Rattle.sacch_interleaver.specs.Diagonal.{all_twelve}

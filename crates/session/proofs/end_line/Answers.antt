@@ -1,6 +1,5 @@
 -- `session::end_line` meets its contract: no line may be read, or the line is answered. Assumes nothing.
 use mathlib.Core.Path.{sym}
-use Prim.Native.Nat.{◌-◌}
 use native.Mathlib.Omega.{arith}
 use lib.Seq.{length-take-le}
 use Rattle.session.proofs.Ended.{line_none, line_some}

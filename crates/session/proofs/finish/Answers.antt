@@ -1,5 +1,4 @@
 -- `session::finish` meets its contract: a last line, then the closing lines. Assumes nothing.
-use Prim.Native.Nat.{◌-◌}
 use native.Mathlib.Omega.{arith}
 use Rattle.session.proofs.Ending.{finished}
 use Rattle.session.proofs.finish.Goals as goal

@@ -1,5 +1,4 @@
 -- `session::last_line` meets its contract: none, or one that is ended. Assumes nothing.
-use Prim.Native.Nat.{◌-◌}
 use Rattle.session.proofs.Ending.{last_none, last_some}
 use Rattle.session.proofs.last_line.Goals as goal
 

@@ -1,6 +1,5 @@
 -- `soft::forward` meets its contract: after each step the path metrics are those of the recursion, and the rows the Rust's. Assumes nothing.
 use mathlib.Core.Path.{refl}
-use Prim.Native.Nat.{◌-◌}
 use native.Mathlib.Omega.{arith}
 use Rattle.soft.proofs.Running.{running_none, running_more}
 use Rattle.soft.proofs.forward.Goals as goal

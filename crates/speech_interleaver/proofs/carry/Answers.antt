@@ -1,6 +1,5 @@
 -- `speech_interleaver::carry` meets its contract: the pairs of rows passed are written. Assumes nothing.
 use mathlib.Core.Path.{refl, sym, ◌∙◌}
-use Prim.Native.Nat.{◌-◌}
 use native.Mathlib.Omega.{arith}
 use Rattle.interleaving.specs.Slots.{carried}
 use Rattle.speech_interleaver.specs.Wire.{interleaved}

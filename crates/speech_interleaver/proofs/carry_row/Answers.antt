@@ -1,6 +1,5 @@
 -- `speech_interleaver::carry_row` meets its contract: the columns passed are written. Assumes nothing.
 use mathlib.Core.Path.{sym, ◌∙◌}
-use Prim.Native.Nat.{◌-◌}
 use native.Mathlib.Omega.{arith}
 use Rattle.speech_interleaver.proofs.Rowing.{rowing_none, rowing_done}
 use Rattle.speech_interleaver.proofs.Order.{carried_more}

@@ -1,6 +1,5 @@
 -- `speech_interleaver::collect` meets its contract: the pairs of rows passed are written. Assumes nothing.
 use mathlib.Core.Path.{sym, ◌∙◌}
-use Prim.Native.Nat.{◌-◌}
 use native.Mathlib.Omega.{arith}
 use Rattle.interleaving.specs.Slots.{collected}
 use Rattle.speech_interleaver.specs.Wire.{deinterleaved}

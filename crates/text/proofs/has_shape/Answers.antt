@@ -1,7 +1,6 @@
 -- `text::has_shape` meets its contract: the places passed fit. Assumes nothing.
 use mathlib.Core.Bool.{not}
 use mathlib.Core.Path.{ap, refl}
-use Prim.Native.Nat.{◌-◌}
 use native.Mathlib.Omega.{arith}
 use borrow.Author.Tests.{not-true, not-false}
 use Rattle.text.proofs.Reading.{fitting_stops, fitting_more, fitting_done, not_shaped}

@@ -1,6 +1,5 @@
 -- `text::has_shape` meets its contract: the places passed fit. Assumes nothing.
 use mathlib.Core.Path.{◌≡◌}
-use Prim.Native.Nat.{◌-◌}
 use lib.ListN.{length}
 use Rattle.text.proofs.Reading.{Fitting}
 use Rattle.text.proofs.has_shape.Given as goal

@@ -1,6 +1,5 @@
 -- `text::line_end` meets its contract: no byte passed is LF. Assumes nothing.
 use mathlib.Core.Path.{refl}
-use Prim.Native.Nat.{◌-◌}
 use native.Mathlib.Omega.{arith}
 use borrow.Author.Count.{below_more}
 use native.Mathlib.Nat.{lt_irrefl}

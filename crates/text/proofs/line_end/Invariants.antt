@@ -1,6 +1,6 @@
 -- `text::line_end` meets its contract: no byte passed is LF. Assumes nothing.
 use mathlib.Core.Path.{◌≡◌}
-use Prim.Native.Nat.{ℕ, ◌-◌, ◌≤◌, ◌<◌}
+use Prim.Native.Nat.{ℕ, ◌≤◌, ◌<◌}
 use lib.ListN.{length, get_or}
 use Rattle.text.proofs.line_end.Given as goal
 

@@ -1,6 +1,6 @@
 -- `viterbi::fill_symbols` meets its contract: the steps passed have the numbers of their pairs. Assumes nothing.
 use mathlib.Core.Path.{refl}
-use Prim.Native.Nat.{◌+◌, ◌*◌, ◌-◌}
+use Prim.Native.Nat.{◌+◌, ◌*◌}
 use native.Mathlib.Omega.{arith}
 use Rattle.bits.proofs.Filled.{filling_none, filling_more, filling_done}
 use Rattle.bits.proofs.Binary.{binary_at}

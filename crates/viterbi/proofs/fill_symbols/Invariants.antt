@@ -1,6 +1,5 @@
 -- `viterbi::fill_symbols` meets its contract: the steps passed have the numbers of their pairs. Assumes nothing.
 use mathlib.Core.Path.{◌≡◌}
-use Prim.Native.Nat.{◌-◌}
 use lib.ListN.{length}
 use Rattle.bits.proofs.Filled.{Filling}
 use Rattle.viterbi.specs.Rows.{pair_of}

@@ -1,6 +1,5 @@
 -- `viterbi::pair_row` meets its contract: the places passed hold the distances. Assumes nothing.
 use mathlib.Core.Path.{refl}
-use Prim.Native.Nat.{◌-◌}
 use native.Mathlib.Omega.{arith}
 use Rattle.bits.proofs.Filled.{filling_none, filling_more, filling_done}
 use Rattle.bits.specs.Bits.{disagreement}

@@ -1,6 +1,5 @@
 -- `viterbi::pair_rows` meets its contract: the rows passed are those of their pairs. Assumes nothing.
 use mathlib.Core.Path.{refl}
-use Prim.Native.Nat.{◌-◌}
 use native.Mathlib.Omega.{arith}
 use Rattle.bits.proofs.Filled.{filling_none, filling_more, filling_done}
 use Rattle.viterbi.proofs.pair_rows.Goals as goal

@@ -1,5 +1,4 @@
 -- `acelp_cc1::encoding::send_run` meets its contract: the pairs passed are written. Assumes nothing.
-use Prim.Native.Nat.{◌-◌}
 use native.Mathlib.Omega.{arith}
 use lib.ListN.{length-set}
 use Rattle.acelp_cc1.proofs.Sending.{pairing_none, pairing_more, pairing_length, pairing_done}

@@ -1,6 +1,6 @@
 -- `acelp_cc1::places::gather` meets its contract: the bytes passed are taken. Assumes nothing.
 use mathlib.Core.Path.{refl, ap}
-use Prim.Native.Nat.{ℕ, ◌-◌}
+use Prim.Native.Nat.{ℕ}
 use native.Mathlib.Omega.{arith}
 use lib.ListN.{get_or}
 use Rattle.bits.proofs.Filled.{filling_none, filling_more}

@@ -1,6 +1,5 @@
 -- `acelp_cc1::places::gather` meets its contract: the bytes passed are taken. Assumes nothing.
 use mathlib.Core.Path.{◌≡◌}
-use Prim.Native.Nat.{◌-◌}
 use lib.ListN.{length}
 use Rattle.acelp_cc1.proofs.Placing.{Gathering}
 use Rattle.acelp_cc1.proofs.places.gather.Given as goal

@@ -1,6 +1,5 @@
 -- `acelp_cc1::places::information_positions` meets its contract: the places passed are right. Assumes nothing.
 use mathlib.Core.Path.{refl}
-use Prim.Native.Nat.{◌-◌}
 use native.Mathlib.Omega.{arith}
 use Rattle.bits.proofs.Filled.{filling_none, filling_more}
 use Rattle.bits.proofs.Scattered.{filled_listed}

@@ -1,6 +1,5 @@
 -- `acelp_cc1::places::scatter` meets its contract: the bytes passed are at their places. Assumes nothing.
 use mathlib.Core.Path.{refl}
-use Prim.Native.Nat.{◌-◌}
 use native.Mathlib.Omega.{arith}
 use Rattle.bits.proofs.Scattered.{scattering_none}
 use Rattle.acelp_cc1.proofs.Placing.{putting_more, putting_done}

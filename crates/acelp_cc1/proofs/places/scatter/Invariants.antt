@@ -1,6 +1,5 @@
 -- `acelp_cc1::places::scatter` meets its contract: the bytes passed are at their places. Assumes nothing.
 use mathlib.Core.Path.{◌≡◌}
-use Prim.Native.Nat.{◌-◌}
 use lib.ListN.{length}
 use Rattle.acelp_cc1.proofs.Placing.{Putting}
 use Rattle.acelp_cc1.proofs.places.scatter.Given as goal

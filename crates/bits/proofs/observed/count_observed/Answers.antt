@@ -1,5 +1,4 @@
 -- `bits::observed::count_observed` meets its contract: so many of the bytes passed are observed. Assumes nothing.
-use Prim.Native.Nat.{◌-◌}
 use native.Mathlib.Omega.{arith}
 use mathlib.Core.Path.{refl}
 use Rattle.bits.proofs.Erased.{observing_none, observing_more, observing_done}

@@ -1,5 +1,4 @@
 -- `bits::observed::count_observed` meets its contract: so many of the bytes passed are observed. Assumes nothing.
-use Prim.Native.Nat.{◌-◌}
 use mathlib.Core.Path.{◌≡◌}
 use lib.ListN.{length}
 use Rattle.bits.proofs.Erased.{Observing}

@@ -1,5 +1,5 @@
 -- `calls::answers::characters` is safe and ends. Assumes nothing.
-use Rattle.std.proofs.Common.{◌≡◌, ◌-◌, ◌≤◌, length}
+use Rattle.std.proofs.Common.{◌≡◌, ◌≤◌, length}
 use Rattle.calls.proofs.answers.characters.Given as goal
 
 abbrev pub invariant-loop-i : goal.invariant-loop-i

@@ -1,5 +1,5 @@
 -- `calls::answers::print_tally` is safe and ends. Assumes nothing.
-use Rattle.std.proofs.Common.{◌-◌, rules}
+use Rattle.std.proofs.Common.{rules}
 use borrow.Author.Rules.{rules}
 use Rattle.calls.proofs.answers.print_tally.Goals as goal
 

@@ -1,5 +1,5 @@
 -- `calls::answers::untouched` is safe and ends. Assumes nothing.
-use Rattle.std.proofs.Common.{◌≡◌, ◌-◌, ◌≤◌, length}
+use Rattle.std.proofs.Common.{◌≡◌, ◌≤◌, length}
 use Rattle.calls.proofs.answers.untouched.Given as goal
 
 abbrev pub invariant-loop-i : goal.invariant-loop-i

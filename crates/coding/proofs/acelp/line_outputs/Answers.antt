@@ -1,6 +1,5 @@
 -- `coding::acelp::line_outputs` meets its contract: each turn is one step of the code, from the state that the line shows. Assumes nothing.
 use mathlib.Core.Path.{refl, sym, ◌∙◌}
-use Prim.Native.Nat.{◌-◌}
 use native.Mathlib.Omega.{arith}
 use Rattle.bits.proofs.Binary.{binary_at}
 use Rattle.coding.proofs.Lines.{sending_none, sending_more, sending_done}

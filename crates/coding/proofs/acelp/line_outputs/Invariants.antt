@@ -1,6 +1,5 @@
 -- `coding::acelp::line_outputs` meets its contract: each turn is one step of the code, from the state that the line shows. Assumes nothing.
 use mathlib.Core.Path.{◌≡◌}
-use Prim.Native.Nat.{◌-◌}
 use lib.ListN.{length}
 use Rattle.coding.proofs.Lines.{Sending}
 use Rattle.coding.proofs.acelp.line_outputs.Given as goal

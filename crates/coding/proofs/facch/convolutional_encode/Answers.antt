@@ -1,6 +1,5 @@
 -- `coding::facch::convolutional_encode` meets its contract: each turn is one step more of the run. Assumes nothing.
 use mathlib.Core.Path.{refl}
-use Prim.Native.Nat.{◌-◌}
 use native.Mathlib.Omega.{arith}
 use lib.ListN.{length-set}
 use Rattle.bits.proofs.Binary.{binary_at}

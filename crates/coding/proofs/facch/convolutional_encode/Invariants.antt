@@ -1,6 +1,5 @@
 -- `coding::facch::convolutional_encode` meets its contract: each turn is one step more of the run. Assumes nothing.
 use mathlib.Core.Path.{◌≡◌}
-use Prim.Native.Nat.{◌-◌}
 use lib.ListN.{length}
 use Rattle.coding.specs.Codes.{facch}
 use Rattle.coding.proofs.Encoding.{Encoding}

@@ -1,7 +1,6 @@
 -- `dcch_interleaver::wire::deinterleave` meets its contract: the cells of the wires passed hold the wires' bytes.
 -- The loop knows its format by the rows and the length alone. Assumes nothing.
 use mathlib.Core.Path.{◌≡◌}
-use Prim.Native.Nat.{◌-◌}
 use lib.ListN.{length}
 use Rattle.dcch_interleaver.specs.declared.BlockFormat.{BlockFormat}
 use Rattle.dcch_interleaver.specs.Formats.{encoded_bits, rows_of}

@@ -1,10 +1,8 @@
 -- `dcch_interleaver::wire::deinterleave_soft` meets its contract: the cells of the wires passed hold the wires' reliabilities.
 -- The loop knows its format by the rows and the length alone. Assumes nothing.
 use mathlib.Core.Path.{refl, sym, ◌∙◌}
-use Prim.Native.Nat.{◌-◌}
 use native.Mathlib.Omega.{arith}
-use lib.Ieee.{nan}
-use Rattle.dcch_interleaver.proofs.Passing.{Receiving, receiving_none, receiving_more, receiving_done, standing_below, standing_next, next_allowed}
+use Rattle.dcch_interleaver.proofs.Passing.{receiving_none, receiving_more, receiving_done, standing_below, standing_next, next_allowed}
 use Rattle.dcch_interleaver.proofs.wire.deinterleave_soft.Goals as goal
 
 pub loop-wire-init : goal.loop-wire-init

@@ -1,9 +1,8 @@
 -- `dcch_interleaver::wire::interleave` meets its contract: the wires passed hold their cells' bytes.
 -- The loop knows its format by the rows and the length alone. Assumes nothing.
 use mathlib.Core.Path.{refl, sym, ◌∙◌}
-use Prim.Native.Nat.{◌-◌}
 use native.Mathlib.Omega.{arith}
-use Rattle.dcch_interleaver.proofs.Passing.{Sending, sending_none, sending_more, sending_done, standing_below, standing_next, next_allowed}
+use Rattle.dcch_interleaver.proofs.Passing.{sending_none, sending_more, sending_done, standing_below, standing_next, next_allowed}
 use Rattle.dcch_interleaver.proofs.wire.interleave.Goals as goal
 
 pub loop-wire-init : goal.loop-wire-init

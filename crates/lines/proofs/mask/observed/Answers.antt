@@ -1,5 +1,4 @@
 -- `lines::mask::observed` meets its contract. Assumes nothing.
-use Prim.Native.Nat.{◌-◌}
 use Rattle.lines.proofs.Masking.{observed-bit, unobserved_bit}
 use Rattle.lines.proofs.mask.observed.Goals as goal
 

@@ -1,6 +1,5 @@
 -- `lines::mask::put_digit` meets its contract: the four bits of the digit stand at their places. Assumes nothing.
 use mathlib.Core.Path.{refl}
-use Prim.Native.Nat.{◌-◌}
 use native.Mathlib.Omega.{arith}
 use lib.ListN.{length-set}
 use Rattle.lines.proofs.Masking.{four_put}

@@ -1,6 +1,5 @@
 -- `lines::mask::put_masked` meets its contract: the bits of the digits passed are written. Assumes nothing.
 use mathlib.Core.Path.{refl, ◌∙◌}
-use Prim.Native.Nat.{◌-◌}
 use native.Mathlib.Omega.{arith}
 use Rattle.lines.proofs.Masking.{reading_none, reading_more, reading_done}
 use Rattle.lines.proofs.mask.put_masked.Goals as goal

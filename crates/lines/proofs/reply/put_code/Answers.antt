@@ -1,5 +1,4 @@
 -- `lines::reply::put_code` meets its contract. Assumes nothing.
-use Prim.Native.Nat.{◌-◌}
 use Rattle.lines.proofs.Lettered.{code_put}
 use borrow.Author.Rules.{rules}
 use Rattle.lines.proofs.reply.put_code.Goals as goal

@@ -1,5 +1,4 @@
 -- `lines::reply::put_content` meets its contract. Assumes nothing.
-use Prim.Native.Nat.{◌-◌}
 use Rattle.lines.proofs.Lettered.{content_put}
 use borrow.Author.Rules.{rules}
 use Rattle.lines.proofs.reply.put_content.Goals as goal

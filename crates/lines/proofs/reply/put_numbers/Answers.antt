@@ -1,5 +1,4 @@
 -- `lines::reply::put_numbers` meets its contract. Assumes nothing.
-use Prim.Native.Nat.{◌-◌}
 use Rattle.text.proofs.Stored.{put_then}
 use borrow.Author.Rules.{rules}
 use Rattle.lines.proofs.reply.put_numbers.Goals as goal

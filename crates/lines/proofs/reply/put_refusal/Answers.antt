@@ -1,5 +1,4 @@
 -- `lines::reply::put_refusal` meets its contract. Assumes nothing.
-use Prim.Native.Nat.{◌-◌}
 use Rattle.lines.proofs.Lettered.{refusal_put}
 use borrow.Author.Rules.{rules}
 use Rattle.lines.proofs.reply.put_refusal.Goals as goal

@@ -1,5 +1,4 @@
 -- `lines::reply::put_sacch` meets its contract. Assumes nothing.
-use Prim.Native.Nat.{◌-◌}
 use Rattle.lines.proofs.Lettered.{word-put}
 use borrow.Author.Rules.{rules}
 use Rattle.lines.proofs.reply.put_sacch.Goals as goal

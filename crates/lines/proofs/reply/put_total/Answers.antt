@@ -1,5 +1,4 @@
 -- `lines::reply::put_total` meets its contract. Assumes nothing.
-use Prim.Native.Nat.{◌-◌}
 use Rattle.lines.proofs.Lettered.{total_put}
 use borrow.Author.Rules.{rules}
 use Rattle.lines.proofs.reply.put_total.Goals as goal

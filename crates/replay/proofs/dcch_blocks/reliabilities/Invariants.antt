@@ -1,5 +1,5 @@
 -- `replay::dcch_blocks::reliabilities` is safe and ends. Assumes nothing.
-use Rattle.std.proofs.Common.{◌≡◌, ◌-◌, ◌≤◌, length}
+use Rattle.std.proofs.Common.{◌≡◌, ◌≤◌, length}
 use Rattle.replay.proofs.dcch_blocks.reliabilities.Given as goal
 
 abbrev pub invariant-loop-i : goal.invariant-loop-i

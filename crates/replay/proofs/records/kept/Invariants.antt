@@ -1,5 +1,5 @@
 -- `replay::records::kept` is safe and ends. Assumes nothing.
-use Rattle.std.proofs.Common.{◌≡◌, ◌-◌, ◌≤◌, length}
+use Rattle.std.proofs.Common.{◌≡◌, ◌≤◌, length}
 use Rattle.replay.proofs.records.kept.Given as goal
 
 abbrev pub invariant-loop-i : goal.invariant-loop-i

@@ -1,6 +1,5 @@
 -- `sacch_encoder::SacchEncoder::with_word` meets its contract: one six after the other, then the fields of all. Assumes nothing.
 use mathlib.Core.Path.{refl}
-use Prim.Native.Nat.{◌-◌}
 use native.Mathlib.Omega.{arith}
 use Rattle.bits.specs.Bits.{bits}
 use Rattle.bits.specs.Numbers.{packed}

@@ -1,6 +1,5 @@
 -- `sacch_encoder::word::code_six` meets its contract: each turn is one step more of the coder's run. Assumes nothing.
 use mathlib.Core.Path.{◌∙◌}
-use Prim.Native.Nat.{◌-◌}
 use native.Mathlib.Omega.{arith}
 use Rattle.bits.proofs.Binary.{binary_at}
 use Rattle.sacch_encoder.proofs.Rows.{row_coded, memory_coded}

@@ -1,6 +1,6 @@
 -- `sacch_interleaver::SacchDeinterleaver::fits` meets its contract: every test, put together. Assumes nothing.
-use mathlib.Core.Path.{ap₂, ◌∙◌}
 use mathlib.Core.Bool.{◌&&◌}
+use mathlib.Core.Path.{ap₂, ◌∙◌}
 use Rattle.sacch_interleaver.specs.Deinterleaver.{deinterleaver_fits}
 use Rattle.sacch_interleaver.proofs.SacchDeinterleaver.fits.Goals as goal
 

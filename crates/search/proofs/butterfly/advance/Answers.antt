@@ -2,7 +2,6 @@
 use Rattle.search.proofs.Butterflies.{filled_more, filled_all}
 use native.Mathlib.Nat.{not-suc-le-zero}
 use mathlib.Core.Path.{refl}
-use Prim.Native.Nat.{◌-◌}
 use native.Mathlib.Omega.{arith}
 use Rattle.search.proofs.butterfly.advance.Goals as goal
 

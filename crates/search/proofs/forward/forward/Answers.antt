@@ -1,6 +1,5 @@
 -- `search::forward::forward` meets its contract: after each step the metrics and the predecessor bytes are those of the recursion. Assumes nothing.
 use mathlib.Core.Path.{refl}
-use Prim.Native.Nat.{◌-◌}
 use native.Mathlib.Omega.{arith}
 use Rattle.search.proofs.Running.{running_none, running_more, fit, forwarded}
 use Rattle.search.proofs.forward.forward.Goals as goal

@@ -1,6 +1,6 @@
 -- `search::forward::forward` meets its contract: after each step the metrics and the predecessor bytes are those of the recursion. Assumes nothing.
 use mathlib.Core.Path.{◌≡◌}
-use Prim.Native.Nat.{◌-◌, ◌≤◌}
+use Prim.Native.Nat.{◌≤◌}
 use lib.ListN.{length}
 use Rattle.search.specs.Forward.{branch_by}
 use Rattle.search.proofs.Running.{Running}

@@ -1,6 +1,6 @@
 -- `search::free::lowest_end` meets its contract: the lowest of the ends passed. Assumes nothing.
 use native.Mathlib.Omega.{arith}
-use Prim.Native.Nat.{ℕ, ◌+◌, ◌-◌}
+use Prim.Native.Nat.{ℕ, ◌+◌}
 use mathlib.Core.Path.{sym, subst}
 use Rattle.search.proofs.Ends.{lowest_one, lowest_more}
 use Rattle.search.specs.Ends.{LowestEnd}

@@ -1,5 +1,4 @@
 -- `session::pieces::feed` meets its contract: the bytes passed are fed. Assumes nothing.
-use Prim.Native.Nat.{◌-◌}
 use native.Mathlib.Omega.{arith}
 use Rattle.session.proofs.Stepped.{feeding_none, feeding_more, feeding_room, feeding_done, feeding_fits}
 use Rattle.session.proofs.pieces.feed.Goals as goal

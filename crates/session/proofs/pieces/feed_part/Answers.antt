@@ -1,5 +1,4 @@
 -- `session::pieces::feed_part` meets its contract: the bytes are kept, and the line is ended where its LF is there. Assumes nothing.
-use Prim.Native.Nat.{◌-◌}
 use native.Mathlib.Omega.{arith}
 use Rattle.session.proofs.Stepped.{kept_fits, part_waits, part_ends}
 use Rattle.session.proofs.pieces.feed_part.Goals as goal

@@ -1,5 +1,4 @@
 -- `session::pieces::keep` meets its contract: the bytes passed stand behind those kept before. Assumes nothing.
-use Prim.Native.Nat.{◌-◌}
 use native.Mathlib.Omega.{arith}
 use Rattle.session.proofs.Gathered.{keeping_none, keeping_room, keeping_more, keeping_done}
 use Rattle.session.proofs.pieces.keep.Goals as goal

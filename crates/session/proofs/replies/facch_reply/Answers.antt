@@ -1,6 +1,5 @@
 -- `session::replies::facch_reply` meets its contract: one line for each kind of answer. Assumes nothing.
 use mathlib.Core.Path.{sym, ap}
-use Prim.Native.Nat.{◌-◌}
 use Rattle.session.specs.Replies.{facch_reply}
 use Rattle.facch.specs.Decoding.{decode_answer}
 use Rattle.facch.specs.declared.Decoded.{Decoded}

@@ -1,6 +1,5 @@
 -- `session::replies::reply_to` meets its contract: one law for each command. Assumes nothing.
 use mathlib.Core.Path.{sym, ◌∙◌}
-use Prim.Native.Nat.{◌-◌}
 use Rattle.lines.proofs.Forms.{facch_long}
 use Rattle.session.specs.Replies.{command_replied}
 use Rattle.session.proofs.Replying.{word_replied, reset_replied, replied_at}

@@ -1,5 +1,4 @@
 -- `session::replies::reply_to_field` meets its contract: the receiver's answer, and the receiver after it. Assumes nothing.
-use Prim.Native.Nat.{◌-◌}
 use Rattle.session.proofs.Replying.{field_replied}
 use Rattle.session.proofs.replies.reply_to_field.Goals as goal
 

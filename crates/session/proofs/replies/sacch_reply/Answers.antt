@@ -1,6 +1,5 @@
 -- `session::replies::sacch_reply` meets its contract: one line for each kind of answer. Assumes nothing.
 use mathlib.Core.Path.{sym, ap}
-use Prim.Native.Nat.{◌-◌}
 use Rattle.session.specs.Replies.{sacch_reply}
 use Rattle.sacch_receiver.specs.Receiver.{outcome_answer}
 use Rattle.sacch_receiver.specs.declared.ReceiveOutcome.{ReceiveOutcome}

@@ -1,6 +1,5 @@
 -- `session::totals::added` meets its contract: one line for each kind of answer. Assumes nothing.
 use mathlib.Core.Path.{sym, ap, ◌∙◌}
-use Prim.Native.Nat.{◌-◌}
 use Rattle.session.specs.Totals.{added_by}
 use Rattle.session.proofs.totals.added.Goals as goal
 

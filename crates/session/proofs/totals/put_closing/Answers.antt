@@ -1,5 +1,4 @@
 -- `session::totals::put_closing` meets its contract. Assumes nothing.
-use Prim.Native.Nat.{◌-◌}
 use Rattle.session.proofs.Closing.{closing-put}
 use borrow.Author.Rules.{rules}
 use Rattle.session.proofs.totals.put_closing.Goals as goal

@@ -1,5 +1,4 @@
 -- `session::totals::put_codes` meets its contract: the lines of the codes passed are written. Assumes nothing.
-use Prim.Native.Nat.{◌-◌}
 use native.Mathlib.Omega.{arith}
 use Rattle.session.proofs.Closing.{listing_none, listing_more, listing_room, listing_done}
 use Rattle.session.proofs.totals.put_codes.Goals as goal

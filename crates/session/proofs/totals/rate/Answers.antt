@@ -1,5 +1,4 @@
 -- `session::totals::rate` meets its contract: 0 where nothing is coded. Assumes nothing.
-use Prim.Native.Nat.{◌-◌}
 use Rattle.session.proofs.Closing.{rate_none, rate_some}
 use Rattle.session.proofs.totals.rate.Goals as goal
 

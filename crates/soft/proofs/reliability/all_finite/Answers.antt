@@ -1,6 +1,5 @@
 -- `soft::reliability::all_finite` meets its contract: the values passed were tested. Assumes nothing.
 use mathlib.Core.Path.{refl}
-use Prim.Native.Nat.{◌-◌}
 use native.Mathlib.Omega.{arith}
 use lib.Ieee.{nan}
 use Rattle.bits.proofs.Passing.{testing_none, testing_more, testing_done}

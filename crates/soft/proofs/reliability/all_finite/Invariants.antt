@@ -1,6 +1,5 @@
 -- `soft::reliability::all_finite` meets its contract: the values passed were tested. Assumes nothing.
 use mathlib.Core.Path.{◌≡◌}
-use Prim.Native.Nat.{◌-◌}
 use lib.ListN.{length}
 use Rattle.bits.proofs.Passing.{Testing}
 use Rattle.soft.specs.Reliability.{all_finite}

@@ -1,10 +1,8 @@
 -- `soft::step::branch_metrics` meets its contract: the butterflies passed have their two branch metrics. Assumes nothing.
-use mathlib.Core.Path.{◌≡◌, refl, ◌∙◌}
+use mathlib.Core.Path.{refl, ◌∙◌}
 use mathlib.Core.Bool.{false}
-use Prim.Native.Nat.{◌-◌, ◌<◌}
 use native.Mathlib.Omega.{arith}
 use Rattle.bits.proofs.Filled.{filling_none, filling_more, filling_done}
-use Rattle.soft.specs.Step.{output_number}
 use Rattle.soft.proofs.Costs.{number_below, cost_zero, cost_one}
 use Rattle.soft.proofs.step.branch_metrics.Goals as goal
 

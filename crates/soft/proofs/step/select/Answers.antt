@@ -1,6 +1,5 @@
 -- `soft::step::select` meets its contract: the butterflies passed fill two states each. Assumes nothing.
 use mathlib.Core.Path.{refl}
-use Prim.Native.Nat.{◌-◌}
 use native.Mathlib.Omega.{arith}
 use Rattle.soft.proofs.Butterflies.{filled_none, filled_more, filled_all}
 use Rattle.soft.proofs.step.select.Goals as goal

@@ -1,6 +1,5 @@
 -- `soft::step::stored_row` meets its contract: the bytes of the states passed are right. Assumes nothing.
 use mathlib.Core.Path.{refl}
-use Prim.Native.Nat.{◌-◌}
 use native.Mathlib.Omega.{arith}
 use Rattle.bits.proofs.Filled.{filling_none, filling_more, filling_done}
 use Rattle.soft.proofs.step.stored_row.Goals as goal

@@ -1,6 +1,5 @@
 -- `speech::inputs::gather` meets its contract: the first i places are read. Assumes nothing.
 use mathlib.Core.Path.{refl, sym, ◌∙◌}
-use Prim.Native.Nat.{◌-◌}
 use native.Mathlib.Omega.{arith}
 use Rattle.bits.proofs.Below.{below_at}
 use Rattle.bits.proofs.Filled.{filling_none, filling_more}

@@ -1,6 +1,5 @@
 -- `speech::inputs::gather` meets its contract: the first i places are read. Assumes nothing.
 use mathlib.Core.Path.{◌≡◌}
-use Prim.Native.Nat.{◌-◌}
 use lib.ListN.{length, get_or}
 use Rattle.bits.proofs.Filled.{Filling}
 use Rattle.speech.proofs.inputs.gather.Given as goal

@@ -1,6 +1,5 @@
 -- `speech::inputs::put_parity` meets its contract: the first i places of the checksum are written. Assumes nothing.
 use mathlib.Core.Path.{refl, sym, ◌∙◌}
-use Prim.Native.Nat.{◌-◌}
 use native.Mathlib.Omega.{arith}
 use Rattle.bits.specs.Places.{place_in}
 use Rattle.bits.proofs.Permuted.{stands}

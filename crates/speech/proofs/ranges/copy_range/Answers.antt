@@ -1,5 +1,4 @@
 -- `speech::ranges::copy_range` meets its contract: i bytes of the range are copied. Assumes nothing.
-use Prim.Native.Nat.{◌-◌}
 use native.Mathlib.Omega.{arith}
 use Rattle.speech.proofs.Copying.{copying_none, copying_more, copying_length, copying_done}
 use Rattle.speech.proofs.ranges.copy_range.Goals as goal

@@ -1,6 +1,5 @@
 -- `speech::ranges::put_ranges` meets its contract: the ranges passed hold their bits. Assumes nothing.
 use mathlib.Core.Path.{refl}
-use Prim.Native.Nat.{◌-◌}
 use native.Mathlib.Omega.{arith}
 use Rattle.speech.proofs.Copying.{putting_none, putting_read, putting_room, putting_more, putting_done, in_bounds, ordered}
 use Rattle.speech.proofs.ranges.put_ranges.Goals as goal

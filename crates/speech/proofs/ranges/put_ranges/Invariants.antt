@@ -1,6 +1,6 @@
 -- `speech::ranges::put_ranges` meets its contract: the ranges passed hold their bits. Assumes nothing.
 use mathlib.Core.Path.{◌≡◌}
-use Prim.Native.Nat.{◌-◌, ◌/◌}
+use Prim.Native.Nat.{◌/◌}
 use lib.ListN.{length}
 use Rattle.speech.proofs.Copying.{Putting}
 use Rattle.speech.proofs.ranges.put_ranges.Given as goal

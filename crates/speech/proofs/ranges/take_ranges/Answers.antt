@@ -1,6 +1,5 @@
 -- `speech::ranges::take_ranges` meets its contract: the ranges passed are written. Assumes nothing.
 use mathlib.Core.Path.{refl, sym, ◌∙◌}
-use Prim.Native.Nat.{◌-◌}
 use native.Mathlib.Omega.{arith}
 use Rattle.speech.proofs.Copying.{taking_none, taking_room, taking_more, taking_done, in_bounds, ordered, run_within}
 use Rattle.speech.proofs.ranges.take_ranges.Goals as goal

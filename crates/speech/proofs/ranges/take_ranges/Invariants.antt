@@ -1,6 +1,6 @@
 -- `speech::ranges::take_ranges` meets its contract: the ranges passed are written. Assumes nothing.
 use mathlib.Core.Path.{◌≡◌}
-use Prim.Native.Nat.{◌-◌, ◌/◌}
+use Prim.Native.Nat.{◌/◌}
 use lib.ListN.{length}
 use Rattle.speech.proofs.Copying.{Taking}
 use Rattle.speech.proofs.ranges.take_ranges.Given as goal

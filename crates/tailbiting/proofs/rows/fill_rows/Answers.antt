@@ -1,5 +1,4 @@
 -- `tailbiting::rows::fill_rows` meets its contract: the rows passed are those of their steps. Assumes nothing.
-use Prim.Native.Nat.{◌-◌}
 use native.Mathlib.Omega.{arith}
 use mathlib.Core.Path.{refl}
 use Rattle.bits.proofs.Filled.{filling_none, filling_more, filling_done}

@@ -1,5 +1,4 @@
 -- `tailbiting::rows::fill_rows` meets its contract: the rows passed are those of their steps. Assumes nothing.
-use Prim.Native.Nat.{◌-◌}
 use mathlib.Core.Path.{◌≡◌}
 use mathlib.Core.List.{[]}
 use lib.ListN.{length}

@@ -1,5 +1,4 @@
 -- `tailbiting::rows::step_row` meets its contract: the places passed hold the branch metrics. Assumes nothing.
-use Prim.Native.Nat.{◌-◌}
 use native.Mathlib.Omega.{arith}
 use mathlib.Core.Path.{refl}
 use Rattle.bits.proofs.Filled.{filling_none, filling_more, filling_done}

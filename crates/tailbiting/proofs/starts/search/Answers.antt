@@ -1,5 +1,4 @@
 -- `tailbiting::starts::search` meets its contract: after each turn the best of the starts tried is kept. Assumes nothing.
-use Prim.Native.Nat.{◌-◌}
 use native.Mathlib.Omega.{arith}
 use Rattle.tailbiting.proofs.Tries.{first_found, all_tried}
 use borrow.Author.Rules.{rules}

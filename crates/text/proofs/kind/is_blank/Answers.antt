@@ -1,6 +1,5 @@
 -- `text::kind::is_blank` meets its contract: the characters passed are spaces. Assumes nothing.
 use mathlib.Core.Path.{refl}
-use Prim.Native.Nat.{◌-◌}
 use native.Mathlib.Omega.{arith}
 use Rattle.text.proofs.LineKinds.{spaces_stop, spaces_more, spaces_done}
 use Rattle.text.proofs.kind.is_blank.Goals as goal

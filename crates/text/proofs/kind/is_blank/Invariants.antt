@@ -1,6 +1,5 @@
 -- `text::kind::is_blank` meets its contract: the characters passed are spaces. Assumes nothing.
 use mathlib.Core.Path.{◌≡◌}
-use Prim.Native.Nat.{◌-◌}
 use lib.ListN.{length}
 use Rattle.text.proofs.LineKinds.{Spaces}
 use Rattle.text.proofs.kind.is_blank.Given as goal

@@ -1,5 +1,4 @@
 -- `text::numerals::decimal_places` meets its contract: the digits passed are counted. Assumes nothing.
-use Prim.Native.Nat.{◌-◌}
 use Rattle.text.proofs.Digits.{counted_none, counted_last, counted_end, counted_more}
 use borrow.Author.Rules.{rules}
 use Rattle.text.proofs.numerals.decimal_places.Goals as goal

@@ -1,5 +1,4 @@
 -- `text::numerals::glyph` meets its contract. Assumes nothing.
-use Prim.Native.Nat.{◌-◌}
 use Rattle.text.proofs.Digits.{glyph_low, glyph_high}
 use borrow.Author.Rules.{rules}
 use Rattle.text.proofs.numerals.glyph.Goals as goal

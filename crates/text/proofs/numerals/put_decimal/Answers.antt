@@ -1,5 +1,4 @@
 -- `text::numerals::put_decimal` meets its contract: it puts as many digits as the number has. Assumes nothing.
-use Prim.Native.Nat.{◌-◌}
 use Rattle.text.proofs.Digits.{decimal-put}
 use borrow.Author.Rules.{rules}
 use Rattle.text.proofs.numerals.put_decimal.Goals as goal

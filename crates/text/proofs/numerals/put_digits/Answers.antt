@@ -1,6 +1,5 @@
 -- `text::numerals::put_digits` meets its contract: the digits passed stand at their places. Assumes nothing.
 use mathlib.Core.Path.{refl}
-use Prim.Native.Nat.{◌-◌}
 use native.Mathlib.Omega.{arith}
 use lib.ListN.{length-set}
 use native.Mathlib.Nat.{mod-lt}

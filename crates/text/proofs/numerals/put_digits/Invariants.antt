@@ -1,6 +1,6 @@
 -- `text::numerals::put_digits` meets its contract: the digits passed stand at their places. Assumes nothing.
 use mathlib.Core.Path.{◌≡◌}
-use Prim.Native.Nat.{◌-◌, ◌≤◌}
+use Prim.Native.Nat.{◌≤◌}
 use lib.ListN.{length}
 use Rattle.text.specs.Numerals.{digits}
 use Rattle.text.proofs.Digits.{Left}

@@ -1,5 +1,4 @@
 -- `text::numerals::put_hexadecimal` meets its contract. Assumes nothing.
-use Prim.Native.Nat.{◌-◌}
 use Rattle.text.proofs.Digits.{hexadecimal-put}
 use borrow.Author.Rules.{rules}
 use Rattle.text.proofs.numerals.put_hexadecimal.Goals as goal

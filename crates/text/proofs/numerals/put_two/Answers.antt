@@ -1,5 +1,4 @@
 -- `text::numerals::put_two` meets its contract. Assumes nothing.
-use Prim.Native.Nat.{◌-◌}
 use Rattle.text.proofs.Stored.{put_then}
 use borrow.Author.Rules.{rules}
 use Rattle.text.proofs.numerals.put_two.Goals as goal

@@ -1,5 +1,5 @@
 -- `calls::arguments::patterns::find` is safe and ends. Assumes nothing.
-use Rattle.std.proofs.Common.{◌≡◌, ◌-◌, ◌≤◌, length}
+use Rattle.std.proofs.Common.{◌≡◌, ◌≤◌, length}
 use Rattle.calls.proofs.arguments.patterns.find.Given as goal
 
 abbrev pub invariant-loop-i : goal.invariant-loop-i

@@ -1,5 +1,5 @@
 -- `calls::arguments::patterns::is_number` is safe and ends. Assumes nothing.
-use Rattle.std.proofs.Common.{◌≡◌, ◌-◌, ◌≤◌, length}
+use Rattle.std.proofs.Common.{◌≡◌, ◌≤◌, length}
 use Rattle.calls.proofs.arguments.patterns.is_number.Given as goal
 
 abbrev pub invariant-loop-i : goal.invariant-loop-i

@@ -1,5 +1,4 @@
 -- `sacch_receiver::stored::window::fill_window` meets its contract: the rows passed stand at their places. Assumes nothing.
-use Prim.Native.Nat.{◌-◌}
 use native.Mathlib.Omega.{arith}
 use Rattle.sacch_receiver.proofs.Unrolled.{unrolling_none, unrolling_more, unrolling_done}
 use Rattle.sacch_receiver.proofs.stored.window.fill_window.Goals as goal
