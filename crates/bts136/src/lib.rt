@@ -3,9 +3,9 @@
 #![tactic(auto)]
 
 mod blocks;
+mod facch_words;
 mod frames;
 mod streams;
-mod words;
 
 ghost use Rattle.std.specs.Prelude.{◌≡◌, length};
 ghost use Rattle.bits.specs.Bits.{bits};
@@ -20,7 +20,7 @@ ghost use Rattle.flat_coding.specs.Flat.{StepAnswer, flat_checksum};
 ghost use Rattle.flat_coding.specs.FlatSearch.{SearchAnswer};
 ghost use Rattle.flat_dcch.specs.Blocks.{mode_of};
 
-use flat_coding::search::Search;
+use flat_coding::bare_search::Search;
 use flat_coding::{Checksum, Step};
 
 // One step of the code of DCCH, SACCH and VSELP, with 2 coded bits. Refused: 8 for a state above 31, then 2 for an input above 1.
@@ -78,7 +78,7 @@ pub extern "C" fn bts136_checksum7(information: &[u8]) -> Checksum
 pub extern "C" fn bts136_viterbi(coded: &[u8], word: &mut [u8]) -> Search
     ensures { SearchAnswer (FoundFirst (Terminated (length word.old)) (weight (bits coded.now))) coded.now word.old word.new result }
 {
-    flat_coding::search::terminated(coded, word)
+    flat_coding::bare_search::terminated(coded, word)
 }
 
 // A nearest word over all 32 starting memories: the search of SACCH. Which of equally near ones is not said. Lengths and refusals as above.
@@ -86,5 +86,5 @@ pub extern "C" fn bts136_viterbi(coded: &[u8], word: &mut [u8]) -> Search
 pub extern "C" fn bts136_viterbi_free(coded: &[u8], word: &mut [u8]) -> Search
     ensures { SearchAnswer (Found (OfLength (length word.old)) (free_weight (bits coded.now))) coded.now word.old word.new result }
 {
-    flat_coding::search::free(coded, word)
+    flat_coding::bare_search::free(coded, word)
 }

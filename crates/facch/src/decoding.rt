@@ -6,7 +6,7 @@ ghost use Rattle.bits.specs.Observed.{all_erasable, observed_count};
 ghost use Rattle.facch.specs.Decoding.{decode_answer, decode_arguments, decode_of, decoding, erased_arguments, finished};
 
 use crate::Decoded;
-use crate::search::nearest_word;
+use crate::nearest::nearest_word;
 use bits::Refusal;
 use bits::arguments::{Arguments, exact_bits};
 use bits::observed::{count_observed, exact_erasable};

@@ -2,7 +2,7 @@
 #![tactic(auto)]
 
 mod decoding;
-mod search;
+mod nearest;
 mod word;
 
 pub use crate::word::encode;

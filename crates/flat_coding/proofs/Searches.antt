@@ -15,7 +15,7 @@ use Rattle.bits.proofs.Refusing.{never_both, passed_first, passed_exact, passed_
 use Rattle.trellis.specs.declared.Outcome.{Outcome}
 use Rattle.bits.specs.declared.arguments.Arguments.{Arguments}
 use Rattle.bits.specs.declared.arguments.Arguments.TheVariants.{Passed, Refused}
-use Rattle.flat_coding.specs.declared.search.Search.{Search}
+use Rattle.flat_coding.specs.declared.bare_search.Search.{Search}
 use Rattle.flat_coding.specs.FlatSearch.{pair_arguments, search_arguments, no_search, SearchAnswer}
 
 -- ---- Passed says that every test was passed

@@ -5,7 +5,7 @@ use Rattle.bits.specs.Refusals.{refused, number_of, expected_of, actual_of}
 use Rattle.bits.specs.Arguments.{first_refusal, exact_of, binary_of}
 use Rattle.bits.specs.declared.Refusal.{Refusal}
 use Rattle.trellis.specs.declared.Outcome.{Outcome}
-use Rattle.flat_coding.specs.declared.search.Search.{Search}
+use Rattle.flat_coding.specs.declared.bare_search.Search.{Search}
 use Rattle.bits.specs.declared.arguments.Arguments.{Arguments}
 use Rattle.bits.specs.declared.arguments.Arguments.TheVariants.{Passed, Refused}
 

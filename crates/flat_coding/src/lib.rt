@@ -1,8 +1,8 @@
-// Flat functions over `coding` and `checksums`: one step of each code, the register of the 16-bit checksum and the 7-bit checksum; `search` has the bare searches, `calls` the record of a call that writes bits. Each answers a number of document 01, or 0 with its result.
+// Flat functions over `coding` and `checksums`: one step of each code, the register of the 16-bit checksum and the 7-bit checksum; `bare_search` has the bare searches, `calls` the record of a call that writes bits. Each answers a number of document 01, or 0 with its result.
 #![tactic(auto)]
 
+pub mod bare_search;
 pub mod calls;
-pub mod search;
 
 ghost use Rattle.std.specs.Prelude.{◌≡◌};
 ghost use Rattle.bits.specs.Bits.{bits};

@@ -29,7 +29,7 @@ fn checked(sum: Checksum) -> Answer {
 }
 
 fn searched(coded: &[u8], word: &mut [u8]) -> Answer {
-    let found = flat_coding::search::terminated(coded, word);
+    let found = flat_coding::bare_search::terminated(coded, word);
     if found.refusal != 0 {
         return refused_by(found.refusal, found.expected, found.actual);
     }

@@ -1,7 +1,7 @@
--- `flat_coding::search::free` meets its contract: a refusal, or what the search finds. Assumes nothing.
+-- `flat_coding::bare_search::free` meets its contract: a refusal, or what the search finds. Assumes nothing.
 use mathlib.Core.Path.{sym, ◌∙◌}
 use Rattle.flat_coding.proofs.Searches.{passed, by_refusal, by_search}
-use Rattle.flat_coding.proofs.search.free.Goals as goal
+use Rattle.flat_coding.proofs.bare_search.free.Goals as goal
 
 pub returns-in-Refused : goal.returns-in-Refused
 returns-in-Refused c = by_refusal c.search_refusal-ready.ensures _ c.in-Refused.is c.no_search.ensures

@@ -1,8 +1,8 @@
--- `flat_coding::search::pairs` meets its contract: a way out for each test of the definition. Assumes nothing.
+-- `flat_coding::bare_search::pairs` meets its contract: a way out for each test of the definition. Assumes nothing.
 use native.Mathlib.Omega.{arith}
 use mathlib.Core.Path.{◌∙◌}
 use Rattle.flat_coding.proofs.Searches.{too_short, too_long, unpaired, paired}
-use Rattle.flat_coding.proofs.search.pairs.Goals as goal
+use Rattle.flat_coding.proofs.bare_search.pairs.Goals as goal
 
 pub returns-then-given-lt10 : goal.returns-then-given-lt10
 returns-then-given-lt10 c = c.exact.ensures ∙ too_short _ (omega arith)

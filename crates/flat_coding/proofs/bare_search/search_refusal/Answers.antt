@@ -1,4 +1,4 @@
--- `flat_coding::search::search_refusal` meets its contract: the block's length, the word's, then the symbols. Assumes nothing.
+-- `flat_coding::bare_search::search_refusal` meets its contract: the block's length, the word's, then the symbols. Assumes nothing.
 use mathlib.Core.Path.{ap, ap₂, ◌∙◌}
 use Prim.Native.Nat.{◌/◌}
 use lib.ListN.{length}
@@ -6,7 +6,7 @@ use Rattle.bits.specs.Arguments.{first_refusal, exact_of, binary_of}
 use Rattle.bits.specs.declared.arguments.Arguments.{Arguments}
 use Rattle.bits.proofs.Refusing.{first_refusal_again}
 use Rattle.flat_coding.specs.FlatSearch.{pair_arguments}
-use Rattle.flat_coding.proofs.search.search_refusal.Goals as goal
+use Rattle.flat_coding.proofs.bare_search.search_refusal.Goals as goal
 
 pub returns : goal.returns
 returns c =

@@ -1,8 +1,8 @@
--- `facch::search::rotate` meets its contract: the last five inputs and the first sixty, copied. Assumes nothing.
+-- `facch::nearest::rotate` meets its contract: the last five inputs and the first sixty, copied. Assumes nothing.
 use lib.ListN.{take}
 use Rattle.bits.proofs.LentPart.{copied_over}
 use Rattle.facch.proofs.Rotating.{asks_rest, copied_five, rotated, sixty}
-use Rattle.facch.proofs.search.rotate.Goals as goal
+use Rattle.facch.proofs.nearest.rotate.Goals as goal
 
 pub slice_bounds-copy_from_slice-end-4 : goal.slice_bounds-copy_from_slice-end-4
 slice_bounds-copy_from_slice-end-4 c = sixty c.args.inputs.now c.args.word.now c.requires.0 c.requires.1
