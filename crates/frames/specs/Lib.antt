@@ -1,3 +1,3 @@
--- The calls of C (Streams) and the turns of the program (Turns).
+-- The reads and writes of the standard streams (Streams) and the turns of the program (Turns).
 pub mod Streams
 pub mod Turns

@@ -1,14 +1,22 @@
--- What the calls of C were given and answered, and what comes after them.
-use Rattle.std.specs.Prelude.{◌≡◌, Bool, true, false, cond, List, [], ◌∷◌, ℕ, eqb, length, ℤ, pos, negsuc}
+-- What the reads and writes of the standard streams were given and answered, and what comes after them.
+use Rattle.std.specs.Prelude.{◌≡◌, Bool, true, false, cond, List, [], ◌∷◌, ℕ, ◌≤◌, eqb, length, min, take, ℤ, pos, negsuc}
 use Prim.Native.Char.{code}
 use Prim.Native.String.{String, [] as empty, ◌∷◌ as ◌then◌}
-use Rattle.io.specs.Counts.{IsPrefixLen, clamp_len}
 use Rattle.frames.specs.declared.streams.Got.{Got}
 use Rattle.frames.specs.declared.streams.Sent.{Sent}
 use Rattle.frames.specs.declared.streams.Next.{Next}
 use Rattle.frames.specs.declared.streams.Next.TheVariants.{Read, Finish, Fail}
 
 -- ---- reading and writing
+-- so many bytes at the start of a list: `&xs[..n]` is in bounds and has n bytes
+abbrev pub IsPrefixLen : ℕ → List ℕ → Type 0
+IsPrefixLen n xs = (n ≤ length xs) × (n ≡ length (take n xs))
+
+-- what a read answered, brought into `0..=most`
+abbrev pub clamp_len : ℤ → ℕ → ℕ
+clamp_len (pos k) most = min k most
+clamp_len (negsuc k) most = 0
+
 -- a read from a descriptor: as many bytes of the buffer count as it answered, none where it failed
 pub record Received (descriptor : ℤ) (buffer : List ℕ) (r : Got) : Type 0 where
   pub from : r.from ≡ descriptor

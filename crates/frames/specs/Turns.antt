@@ -1,7 +1,6 @@
 -- The turns of the program. No contract can say which bytes a read brings, so they are called here what the input buffer then holds, as many as the read
 -- answered; and what is written is what is handed to a descriptor.
 use Rattle.std.specs.Prelude.{◌≡◌, not, ◌⊎◌, List, ◌++◌, ℕ, suc, ◌+◌, ◌≤◌, eqb, pos, length, replicate, take}
-use Rattle.io.specs.Counts.{clamp_len}
 use Rattle.text.specs.Writing.{Put}
 use Rattle.session.specs.declared.Session.{Session}
 use Rattle.session.specs.Output.{output}
@@ -11,7 +10,7 @@ use Rattle.frames.specs.declared.Turn.{Turn}
 use Rattle.frames.specs.declared.streams.Next.{Next}
 use Rattle.frames.specs.declared.streams.Next.TheVariants.{Read, Finish, Fail}
 use Rattle.frames.specs.declared.streams.Sent.{Sent}
-use Rattle.frames.specs.Streams.{Told, complete, failure_text, left_text, next_of, nothing_sent}
+use Rattle.frames.specs.Streams.{Told, clamp_len, complete, failure_text, left_text, next_of, nothing_sent}
 
 -- ---- one turn
 -- what a turn read: as many bytes of the buffer as the read answered

@@ -9,9 +9,9 @@ ghost use Rattle.session.specs.Sessions.{SessionFits};
 ghost use Rattle.frames.specs.Turns.{Answered, Concluded, Listened, Ran};
 
 use crate::streams::{
-    Got, Next, Sent, decide, goes_on, nothing_sent, read_once, tell_failure, tell_left, write_first,
+    Got, Next, STDIN_FILENO, STDOUT_FILENO, Sent, Streams, decide, goes_on, nothing_sent,
+    read_once, standard_streams, tell_failure, tell_left, write_first,
 };
-use libc::{STDIN_FILENO, STDOUT_FILENO};
 use session::pieces::feed;
 use session::{Session, finish, start};
 
@@ -49,6 +49,7 @@ fn output_buffer() -> [u8; 409600]
 
 // Reads once, and writes what the bytes are answered.
 fn answer_piece(
+    streams: Streams,
     session: Session,
     piece: &mut [u8],
     line: &mut [u8],
@@ -59,11 +60,11 @@ fn answer_piece(
     ensures answered { Answered session piece.new line.old line.new counts.old counts.new out.old out.new result }
     ensures value { (16384 ≡ length piece.new) × (409600 ≡ length out.new) }
 {
-    let got = read_once(STDIN_FILENO, piece);
+    let got = read_once(streams, STDIN_FILENO, piece);
     let n = got.bytes;
     let fed = feed(session, &piece[..n], line, counts, out);
     let after = fed.session;
-    let sent = write_first(STDOUT_FILENO, out, fed.at);
+    let sent = write_first(streams, STDOUT_FILENO, out, fed.at);
     Turn {
         session: after,
         got,
@@ -73,11 +74,17 @@ fn answer_piece(
 }
 
 // Turns until there is no more to read. Nothing says that an input ends, so they are counted.
-fn listen(piece: &mut [u8], line: &mut [u8], counts: &mut [u32], out: &mut [u8]) -> Turn
+fn listen(
+    streams: Streams,
+    piece: &mut [u8],
+    line: &mut [u8],
+    counts: &mut [u32],
+    out: &mut [u8],
+) -> Turn
     requires { (length line.old ≡ 137) × (counts.old ≡ replicate 256 0) × (16384 ≡ length piece.old) × (409600 ≡ length out.old) }
     ensures { Listened result line.new counts.new × (409600 ≡ length out.new) }
 {
-    let mut last = answer_piece(start(), piece, line, counts, out);
+    let mut last = answer_piece(streams, start(), piece, line, counts, out);
     let mut turns = u64::MAX;
     while turns > 0 {
         let next = last.next;
@@ -86,13 +93,13 @@ fn listen(piece: &mut [u8], line: &mut [u8], counts: &mut [u32], out: &mut [u8])
         }
         turns -= 1;
         let session = last.session;
-        last = answer_piece(session, piece, line, counts, out);
+        last = answer_piece(streams, session, piece, line, counts, out);
     }
     last
 }
 
 // A last line and the totals, where the input was answered to its end.
-fn conclude(last: Turn, line: &[u8], counts: &mut [u32], out: &mut [u8]) -> Sent
+fn conclude(streams: Streams, last: Turn, line: &[u8], counts: &mut [u32], out: &mut [u8]) -> Sent
     requires { SessionFits last.session line.now counts.old × (409600 ≡ length out.old) }
     ensures { Concluded last.next last.session line.now counts.old out.old out.new result }
 {
@@ -102,22 +109,28 @@ fn conclude(last: Turn, line: &[u8], counts: &mut [u32], out: &mut [u8]) -> Sent
         Next::Finish => {
             let session = last.session;
             let end = finish(session, line, counts, out);
-            write_first(STDOUT_FILENO, out, end)
+            write_first(streams, STDOUT_FILENO, out, end)
         }
         Next::Fail => nothing_sent(),
     }
 }
 
-fn run(piece: &mut [u8], line: &mut [u8], counts: &mut [u32], out: &mut [u8]) -> Outcome
+fn run(
+    streams: Streams,
+    piece: &mut [u8],
+    line: &mut [u8],
+    counts: &mut [u32],
+    out: &mut [u8],
+) -> Outcome
     requires { (length line.old ≡ 137) × (counts.old ≡ replicate 256 0) × (16384 ≡ length piece.old) × (409600 ≡ length out.old) }
     ensures { Ran out.new result }
 {
-    let last = listen(piece, line, counts, out);
-    let totals = conclude(last, line, counts, out);
+    let last = listen(streams, piece, line, counts, out);
+    let totals = conclude(streams, last, line, counts, out);
     let next = last.next;
     let session = last.session;
-    let failure = tell_failure(next, totals);
-    let left = tell_left(session.left);
+    let failure = tell_failure(streams, next, totals);
+    let left = tell_left(streams, session.left);
     Outcome {
         last,
         totals,
@@ -126,10 +139,16 @@ fn run(piece: &mut [u8], line: &mut [u8], counts: &mut [u32], out: &mut [u8]) ->
     }
 }
 
-fn main() {
+fn main(rt: HostRuntime) {
     let mut piece = input_buffer();
     let mut line = [0u8; 137];
     let mut counts = [0u32; 256];
     let mut out = output_buffer();
-    run(&mut piece, &mut line, &mut counts, &mut out);
+    run(
+        standard_streams(&rt),
+        &mut piece,
+        &mut line,
+        &mut counts,
+        &mut out,
+    );
 }

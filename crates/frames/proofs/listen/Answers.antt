@@ -13,7 +13,7 @@ answer_piece-last-requires c =
 pub loop-turns-init : goal.loop-turns-init
 loop-turns-init c =
     let done = c.answer_piece-last.ensures in
-    (turned_first c.start.ensures c.requires.1 done.0, done.0.fed.fits, done.1.0, done.1.1)
+    (turned_first c.start.ensures c.requires.1 done.answered, done.answered.fed.fits, done.value.0, done.value.1)
 
 pub returns-then-not-goes_on : goal.returns-then-not-goes_on
 returns-then-not-goes_on c =
@@ -29,7 +29,7 @@ pub loop-turns-preserved : goal.loop-turns-preserved
 loop-turns-preserved c =
     let held = c.loop-turns.invariant in
     let done = c.answer_piece-last-in-loop-turns.ensures in
-    (turned_more held.0 (sym c.goes_on.ensures ∙ not-false _ (ap not c.if-not-goes_on.false)) (omega arith) done.0, done.0.fed.fits, done.1.0, done.1.1)
+    (turned_more held.0 (sym c.goes_on.ensures ∙ not-false _ (ap not c.if-not-goes_on.false)) (omega arith) done.answered, done.answered.fed.fits, done.value.0, done.value.1)
 
 pub returns : goal.returns
 returns c =

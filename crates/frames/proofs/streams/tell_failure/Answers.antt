@@ -3,11 +3,7 @@ use mathlib.Core.Path.{subst}
 use mathlib.Core.Bool.{Bool, not}
 use Rattle.frames.specs.Streams.{Told, failure_text}
 use Rattle.frames.specs.Streams.Message.{failure}
-use borrow.Author.Rules.{rules}
 use Rattle.frames.proofs.streams.tell_failure.Goals as goal
-
-slice-aggregate-tell : tie.Need-slice-aggregate-tell
-slice-aggregate-tell c = search rules
 
 pub tell-requires : goal.tell-requires
 unfolding failure_text
