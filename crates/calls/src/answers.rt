@@ -2,7 +2,7 @@
 ghost use Rattle.std.specs.Prelude.{◌≤◌, length};
 
 use bits::{Refusal, Wrote, refusals, wide};
-use libc::STDOUT_FILENO;
+use std::io;
 use std::num::wrapping_add_u32;
 
 // What a room holds before a call: no bit, so that a byte that was not written is seen.
@@ -89,66 +89,47 @@ pub fn wrote(outcome: Wrote) -> Answer {
     }
 }
 
-pub fn write(words: &[u8]) {
-    io::write_all(STDOUT_FILENO, words);
+pub fn write<W: io::Write>(out: &mut W, words: &[u8]) -> io::Result<()> {
+    out.write_all(words)
 }
 
 // A space and a number.
-pub fn part(n: u64) {
-    write(b" ");
-    io::print_hex(STDOUT_FILENO, n, 1);
+pub fn part<W: io::Write>(out: &mut W, n: u64) -> io::Result<()> {
+    write!(out, " {n:x}")
 }
 
-fn decimal(n: u64) {
-    io::print_decimal(STDOUT_FILENO, n);
-}
-
-fn decoded_name(kind: Kind) {
+fn name(kind: Kind) -> &'static str {
     match kind {
-        Kind::Corrected => write(b"corrected"),
-        Kind::Word => write(b"word"),
-        Kind::Frame => write(b"frame"),
-        Kind::Pending => write(b"pending"),
-        Kind::Rejected => write(b"rejected"),
-        _ => (),
+        Kind::Done => "done",
+        Kind::Value => "value",
+        Kind::Next => "next",
+        Kind::Found => "found",
+        Kind::Corrected => "corrected",
+        Kind::Word => "word",
+        Kind::Frame => "frame",
+        Kind::Pending => "pending",
+        Kind::Rejected => "rejected",
+        Kind::Unknown | Kind::Refused => "",
     }
 }
 
-// Each function names some: one for all takes longer to prove.
-fn name(kind: Kind) {
-    match kind {
-        Kind::Done => write(b"done"),
-        Kind::Value => write(b"value"),
-        Kind::Next => write(b"next"),
-        Kind::Found => write(b"found"),
-        _ => decoded_name(kind),
-    }
+fn refusal<W: io::Write>(out: &mut W, values: [u64; 5]) -> io::Result<()> {
+    write!(out, "refused {} ({}, {})", values[0], values[1], values[2])
 }
 
-fn refusal(values: [u64; 5]) {
-    write(b"refused ");
-    decimal(values[0]);
-    write(b" (");
-    decimal(values[1]);
-    write(b", ");
-    decimal(values[2]);
-    write(b")");
-}
-
-pub fn print(answer: Answer) {
+pub fn print<W: io::Write>(out: &mut W, answer: Answer) -> io::Result<()> {
     let kind = answer.kind;
     let values = answer.values;
-    let count = answer.count;
     if let Kind::Refused = kind {
-        refusal(values);
-        return;
+        return refusal(out, values);
     }
-    name(kind);
+    write(out, name(kind).as_bytes())?;
     for i in 0..5usize {
-        if i < count {
-            part(values[i]);
+        if i < answer.count {
+            part(out, values[i])?;
         }
     }
+    Ok(())
 }
 
 pub fn is_known(answer: Answer) -> bool {
@@ -182,18 +163,17 @@ fn characters(room: &[u8], out: &mut [u8])
 }
 
 // What became of a room: a digit for each byte.
-pub fn room(bytes: &[u8])
+pub fn room<W: io::Write>(out: &mut W, bytes: &[u8]) -> io::Result<()>
     requires { length bytes.now ≤ 800 }
 {
     if untouched(bytes) {
-        write(b" untouched");
-        return;
+        return write(out, b" untouched");
     }
-    let mut out = [0u8; 800];
-    characters(bytes, &mut out);
+    let mut digits = [0u8; 800];
+    characters(bytes, &mut digits);
     let n = bytes.len();
-    write(b" ");
-    write(&out[0..n]);
+    write(out, b" ")?;
+    write(out, &digits[0..n])
 }
 
 // Of the turns of a line, how many were answered, refused by each number, and left the rooms as they were.
@@ -237,26 +217,23 @@ impl Tally {
     }
 }
 
-fn refused_part(number: usize, count: u32) {
+fn refused_part<W: io::Write>(out: &mut W, number: usize, count: u32) -> io::Result<()> {
     if count == 0 {
-        return;
+        return Ok(());
     }
-    write(b", ");
-    decimal(count as u64);
-    write(b" refused ");
-    decimal(number as u64);
+    write!(out, ", {count} refused {number}")
 }
 
-pub fn print_tally(tally: Tally) {
-    decimal(tally.answered as u64);
-    write(b" answered");
+pub fn print_tally<W: io::Write>(out: &mut W, tally: Tally) -> io::Result<()> {
+    let answered = tally.answered;
+    let untouched = tally.untouched;
     let counts = tally.refused;
+    write!(out, "{answered} answered")?;
     for i in 1..9usize {
-        refused_part(i, counts[i]);
+        refused_part(out, i, counts[i])?;
     }
-    if tally.untouched != 0 {
-        write(b", ");
-        decimal(tally.untouched as u64);
-        write(b" untouched");
+    if untouched != 0 {
+        write!(out, ", {untouched} untouched")?;
     }
+    Ok(())
 }

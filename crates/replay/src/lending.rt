@@ -4,6 +4,7 @@ ghost use Rattle.std.specs.Prelude.{◌≤◌, length};
 use crate::{dcch_blocks, facch_words, sacch_words, speech_frames, steps};
 use calls::answers::{Answer, UNTOUCHED, done, is_known, print, room, unknown, untouched};
 use calls::arguments::{Given, find, read};
+use std::io;
 use text::has_shape;
 
 // What came of a turn of a line.
@@ -75,23 +76,31 @@ fn at_most(n: usize) -> usize
 }
 
 // Prints an answer and the rooms that there are.
-fn show(answer: Answer, given: Given, one: &[u8], two: &[u8])
+fn show<W: io::Write>(
+    out: &mut W,
+    answer: Answer,
+    given: Given,
+    one: &[u8],
+    two: &[u8],
+) -> io::Result<()>
     requires { (length one.now ≤ 800) × (length two.now ≤ 800) }
 {
     if !is_known(answer) {
-        return;
+        return Ok(());
     }
-    print(answer);
+    print(out, answer)?;
     if 0 < given.rooms {
-        room(one);
+        room(out, one)?;
     }
     if 1 < given.rooms {
-        room(two);
+        room(out, two)?;
     }
+    Ok(())
 }
 
 // Calls, and prints the answer where the line has one turn.
-fn told(
+fn told<W: io::Write>(
+    out: &mut W,
     module: &[u8],
     call: &[u8],
     given: Given,
@@ -100,7 +109,7 @@ fn told(
     second: &[u8],
     one: &mut [u8],
     two: &mut [u8],
-) -> Outcome
+) -> io::Result<Outcome>
     requires { (length first.now ≤ 800) × (length one.old ≤ 800) × (length two.old ≤ 800) }
 {
     let answer = run(
@@ -114,24 +123,26 @@ fn told(
         two,
     );
     if given.turns == 0 {
-        show(answer, given, one, two);
+        show(out, answer, given, one, two)?;
     }
-    Outcome {
+    let untouched = bits::both(0 < given.rooms, bits::both(untouched(one), untouched(two)));
+    Ok(Outcome {
         answer,
-        untouched: bits::both(0 < given.rooms, bits::both(untouched(one), untouched(two))),
+        untouched,
         turns: given.turns,
-    }
+    })
 }
 
 // Lends rooms that hold 9s.
-fn lend(
+fn lend<W: io::Write>(
+    out: &mut W,
     module: &[u8],
     call: &[u8],
     given: Given,
     numbers: &[u64],
     first: &[u8],
     second: &[u8],
-) -> Outcome
+) -> io::Result<Outcome>
     requires { length first.now ≤ 800 }
 {
     let mut one = [UNTOUCHED; 800];
@@ -139,6 +150,7 @@ fn lend(
     let n = at_most(given.first_room);
     let m = at_most(given.second_room);
     told(
+        out,
         module,
         call,
         given,
@@ -159,35 +171,50 @@ fn once(answer: Answer) -> Outcome {
 }
 
 // The calls of SACCH over records print their answers themselves; all others are lent slices.
-fn call_with(
+fn call_with<W: io::Write>(
+    out: &mut W,
     module: &[u8],
     call: &[u8],
     given: Given,
     numbers: &[u64],
     first: &[u8],
     second: &[u8],
-) -> Outcome
+) -> io::Result<Outcome>
     requires { length first.now ≤ 800 }
 {
     if !given.well_formed {
-        return once(unknown());
+        return Ok(once(unknown()));
     }
     if has_shape(b"sacch", module) {
-        if sacch_words::over_record(call, given.counts(), numbers) {
-            return once(done());
+        if sacch_words::over_record(out, call, given.counts(), numbers)? {
+            return Ok(once(done()));
         }
     }
-    lend(module, call, given, numbers, first, second)
+    lend(out, module, call, given, numbers, first, second)
 }
 
-fn read_and_call(module: &[u8], call: &[u8], arguments: &[u8], turn: usize) -> Outcome {
+fn read_and_call<W: io::Write>(
+    out: &mut W,
+    module: &[u8],
+    call: &[u8],
+    arguments: &[u8],
+    turn: usize,
+) -> io::Result<Outcome> {
     let mut numbers = [0u64; 32];
     let mut first = [0u8; 800];
     let mut second = [0u8; 800];
     let given = read(arguments, turn, &mut numbers, &mut first, &mut second);
     let n = at_most(given.first_input);
     let m = at_most(given.second_input);
-    call_with(module, call, given, &numbers, &first[0..n], &second[0..m])
+    call_with(
+        out,
+        module,
+        call,
+        given,
+        &numbers,
+        &first[0..n],
+        &second[0..m],
+    )
 }
 
 // The place after a space, or the end.
@@ -202,10 +229,10 @@ fn after(line: &[u8], space: usize) -> usize
 }
 
 // A turn of a line `MODULE CALL ARGUMENTS`.
-pub fn turn(line: &[u8], turn: usize) -> Outcome {
+pub fn turn<W: io::Write>(out: &mut W, line: &[u8], turn: usize) -> io::Result<Outcome> {
     let end = find(line, 0, b' ');
     let start = after(line, end);
     let stop = find(line, start, b' ');
     let rest = after(line, stop);
-    read_and_call(&line[0..end], &line[start..stop], &line[rest..], turn)
+    read_and_call(out, &line[0..end], &line[start..stop], &line[rest..], turn)
 }

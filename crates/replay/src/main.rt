@@ -15,34 +15,30 @@ mod steps;
 use calls::answers::{Tally, is_known, print_tally, write};
 use calls::arguments::put;
 use lending::{Outcome, turn};
-use libc::STDIN_FILENO;
+use std::io;
 use std::num::wrapping_add_usize;
 use text::has_shape;
 
 // Counts the answers to every turn of a line; the first turn is over.
-fn sweep(line: &[u8], first: Outcome) {
-    let answer = first.answer;
-    let mut counts = Tally::new().with(answer, first.untouched);
+fn sweep<W: io::Write>(out: &mut W, line: &[u8], first: Outcome) -> io::Result<()> {
+    let mut counts = Tally::new().with(first.answer, first.untouched);
     for k in 1..first.turns {
-        let next = turn(line, k);
-        let answer = next.answer;
-        let more = counts.with(answer, next.untouched);
-        counts = more;
+        let next = turn(out, line, k)?;
+        counts = counts.with(next.answer, next.untouched);
     }
-    print_tally(counts);
+    print_tally(out, counts)
 }
 
-fn answer_call(line: &[u8]) {
-    let first = turn(line, 0);
-    let answer = first.answer;
-    if !is_known(answer) {
-        write(b"? ");
-        write(line);
-        return;
+fn answer_call<W: io::Write>(out: &mut W, line: &[u8]) -> io::Result<()> {
+    let first = turn(out, line, 0)?;
+    if !is_known(first.answer) {
+        write(out, b"? ")?;
+        return write(out, line);
     }
     if 0 < first.turns {
-        sweep(line, first);
+        sweep(out, line, first)?;
     }
+    Ok(())
 }
 
 fn is_comment(line: &[u8]) -> bool {
@@ -52,59 +48,70 @@ fn is_comment(line: &[u8]) -> bool {
     has_shape(b"//", &line[0..2])
 }
 
-fn answer_line(line: &[u8]) {
+fn answer_line<W: io::Write>(out: &mut W, line: &[u8]) -> io::Result<()> {
     if is_comment(line) {
-        write(line);
+        write(out, line)?;
     } else {
-        answer_call(line);
+        answer_call(out, line)?;
     }
-    write(b"\n");
+    write(out, b"\n")
 }
 
 // The line that is gathered; one that is too long is no call.
-fn end_line(line: &[u8], n: usize) {
+fn end_line<W: io::Write>(out: &mut W, line: &[u8], n: usize) -> io::Result<()> {
     if n <= line.len() {
-        answer_line(&line[0..n]);
+        answer_line(out, &line[0..n])
     } else {
-        write(b"? a line that is too long\n");
+        write(out, b"? a line that is too long\n")
     }
 }
 
 // One more byte of a line, of which there are n. Answers how many there are then.
-fn take_byte(line: &mut [u8], n: usize, byte: u8) -> usize {
+fn take_byte<W: io::Write>(out: &mut W, line: &mut [u8], n: usize, byte: u8) -> io::Result<usize> {
     if byte == b'\n' {
-        end_line(line, n);
-        return 0;
+        end_line(out, line, n)?;
+        return Ok(0);
     }
     put(line, n, byte);
-    wrapping_add_usize(n, 1)
+    Ok(wrapping_add_usize(n, 1))
 }
 
-fn take_piece(piece: &[u8], line: &mut [u8], before: usize) -> usize {
+fn take_piece<W: io::Write>(
+    out: &mut W,
+    piece: &[u8],
+    line: &mut [u8],
+    before: usize,
+) -> io::Result<usize> {
     let mut n = before;
     for i in 0..piece.len() {
-        n = take_byte(line, n, piece[i]);
+        n = take_byte(out, line, n, piece[i])?;
     }
-    n
+    Ok(n)
 }
 
 // Nothing says that an input ends, so the pieces are counted.
-fn answer_all(piece: &mut [u8], line: &mut [u8]) {
-    let mut left = u64::MAX;
+fn answer_all<R: io::Read, W: io::Write>(
+    input: &mut R,
+    out: &mut W,
+    piece: &mut [u8],
+    line: &mut [u8],
+) -> io::Result<()> {
     let mut n = 0;
-    while left > 0 {
-        left -= 1;
-        let got = io::read_full(STDIN_FILENO, piece);
+    for _ in 0..u64::MAX {
+        let got = input.read(piece)?;
         if got == 0 {
-            return;
+            break;
         }
-        n = take_piece(&piece[..got], line, n);
+        n = take_piece(out, &piece[..got], line, n)?;
     }
+    Ok(())
 }
 
 // No line is longer than 2048 bytes.
-fn main() {
-    let mut piece = io::large_buffer();
+fn main(rt: HostRuntime) -> io::Result<()> {
+    let mut piece = [0u8; 65536];
     let mut line = [0u8; 2048];
-    answer_all(&mut piece, &mut line);
+    let mut input = rt.reader();
+    let mut out = io::writer(&rt);
+    answer_all(&mut input, &mut out, &mut piece, &mut line)
 }

@@ -5,6 +5,7 @@ use calls::arguments::{at, byte_at, put_number, u16_at};
 use sacch_encoder::SacchEncoder;
 use sacch_interleaver::SacchDeinterleaver;
 use sacch_receiver::{Lock, SacchReceiver};
+use std::io;
 use std::num::wrapping_add_usize;
 
 const UNLOCKED: u64 = 256;
@@ -84,10 +85,11 @@ pub fn put(list: &[u16], out: &mut [u64], from: usize) {
     }
 }
 
-pub fn print_numbers(numbers: &[u64]) {
+pub fn print_numbers<W: io::Write>(out: &mut W, numbers: &[u64]) -> io::Result<()> {
     for i in 0..numbers.len() {
-        part(numbers[i]);
+        part(out, numbers[i])?;
     }
+    Ok(())
 }
 
 // Whether a record is the one of the line.
@@ -100,34 +102,48 @@ fn kept(now: &[u64], numbers: &[u64], from: usize) -> bool {
     true
 }
 
-fn show(now: &[u64], numbers: &[u64], from: usize) {
+fn show<W: io::Write>(out: &mut W, now: &[u64], numbers: &[u64], from: usize) -> io::Result<()> {
     if kept(now, numbers, from) {
-        write(b" kept");
-        return;
+        return write(out, b" kept");
     }
-    write(b" now");
-    print_numbers(now);
+    write(out, b" now")?;
+    print_numbers(out, now)
 }
 
-pub fn show_encoder(encoder: SacchEncoder, numbers: &[u64], from: usize) {
+pub fn show_encoder<W: io::Write>(
+    out: &mut W,
+    encoder: SacchEncoder,
+    numbers: &[u64],
+    from: usize,
+) -> io::Result<()> {
     let rows = encoder.rows;
     let mut now = [0u64; 14];
     now[0] = encoder.memory as u64;
     now[13] = encoder.cursor as u64;
     put(&rows, &mut now, 1);
-    show(&now, numbers, from);
+    show(out, &now, numbers, from)
 }
 
-pub fn show_deinterleaver(deinterleaver: SacchDeinterleaver, numbers: &[u64], from: usize) {
+pub fn show_deinterleaver<W: io::Write>(
+    out: &mut W,
+    deinterleaver: SacchDeinterleaver,
+    numbers: &[u64],
+    from: usize,
+) -> io::Result<()> {
     let fields = deinterleaver.fields;
     let mut now = [0u64; 14];
     now[12] = deinterleaver.cursor as u64;
     now[13] = deinterleaver.received as u64;
     put(&fields, &mut now, 0);
-    show(&now, numbers, from);
+    show(out, &now, numbers, from)
 }
 
-pub fn show_receiver(receiver: SacchReceiver, numbers: &[u64], from: usize) {
+pub fn show_receiver<W: io::Write>(
+    out: &mut W,
+    receiver: SacchReceiver,
+    numbers: &[u64],
+    from: usize,
+) -> io::Result<()> {
     let fields = receiver.fields;
     let rows = receiver.rows;
     let lock = receiver.lock;
@@ -140,5 +156,5 @@ pub fn show_receiver(receiver: SacchReceiver, numbers: &[u64], from: usize) {
     now[28] = lock_number(lock);
     put(&fields, &mut now, 0);
     put(&rows, &mut now, 14);
-    show(&now, numbers, from);
+    show(out, &now, numbers, from)
 }

@@ -10,6 +10,7 @@ use sacch_decoder::{Decoded, SacchWord};
 use sacch_encoder::{EncodedField, EncodedWord};
 use sacch_interleaver::{PushedRow, RowOutcome};
 use sacch_receiver::{Heard, Pushed, PushedWord, ReceiveOutcome};
+use std::io;
 
 fn of_word(w: SacchWord) -> Answer {
     word(w.continuation, w.message, w.corrected, w.ending as u64)
@@ -43,65 +44,68 @@ fn of_heard(heard: Heard) -> Answer {
     }
 }
 
-fn show_pushed(pushed: Pushed, numbers: &[u64]) {
+fn show_pushed<W: io::Write>(out: &mut W, pushed: Pushed, numbers: &[u64]) -> io::Result<()> {
     let outcome = pushed.outcome;
     let receiver = pushed.receiver;
-    print(of_outcome(outcome));
-    show_receiver(receiver, numbers, 2);
+    print(out, of_outcome(outcome))?;
+    show_receiver(out, receiver, numbers, 2)
 }
 
-fn show_push(pushed: PushedWord, numbers: &[u64]) {
+fn show_push<W: io::Write>(out: &mut W, pushed: PushedWord, numbers: &[u64]) -> io::Result<()> {
     let heard = pushed.heard;
     let receiver = pushed.receiver;
-    print(of_heard(heard));
-    show_receiver(receiver, numbers, 2);
+    print(out, of_heard(heard))?;
+    show_receiver(out, receiver, numbers, 2)
 }
 
-fn show_field(sent: EncodedField, numbers: &[u64]) {
+fn show_field<W: io::Write>(out: &mut W, sent: EncodedField, numbers: &[u64]) -> io::Result<()> {
     let outcome = sent.outcome;
     let encoder = sent.encoder;
-    print(wrote(outcome));
-    write(b" sent");
-    part(sent.field as u64);
-    show_encoder(encoder, numbers, 1);
+    print(out, wrote(outcome))?;
+    write(out, b" sent")?;
+    part(out, sent.field as u64)?;
+    show_encoder(out, encoder, numbers, 1)
 }
 
-fn show_fields(sent: EncodedWord, numbers: &[u64]) {
+fn show_fields<W: io::Write>(out: &mut W, sent: EncodedWord, numbers: &[u64]) -> io::Result<()> {
     let outcome = sent.outcome;
     let encoder = sent.encoder;
     let fields = sent.fields;
     let mut list = [0u64; 11];
     put(&fields, &mut list, 0);
-    print(wrote(outcome));
-    write(b" sent");
-    print_numbers(&list);
-    show_encoder(encoder, numbers, 3);
+    print(out, wrote(outcome))?;
+    write(out, b" sent")?;
+    print_numbers(out, &list)?;
+    show_encoder(out, encoder, numbers, 3)
 }
 
 // `encode_bits SIX`, `encode_word CONTINUATION MESSAGE DVCC` and `reset`, each before an encoder. Answers whether it was one of them.
-fn encoder_call(call: &[u8], counts: usize, numbers: &[u64]) -> bool {
+fn encoder_call<W: io::Write>(
+    out: &mut W,
+    call: &[u8],
+    counts: usize,
+    numbers: &[u64],
+) -> io::Result<bool> {
     if asks(b"encode_bits", call, counts, 1500) {
         let encoder = encoder_of(numbers, 1);
-        show_field(encoder.encode_bits(byte_at(numbers, 0)), numbers);
-        return true;
+        show_field(out, encoder.encode_bits(byte_at(numbers, 0)), numbers)?;
+        return Ok(true);
     }
     if asks(b"encode_word", call, counts, 1700) {
         let encoder = encoder_of(numbers, 3);
         let message = at(numbers, 1);
         let dvcc = byte_at(numbers, 2);
-        show_fields(
-            encoder.encode_word(flag_at(numbers, 0), message, dvcc),
-            numbers,
-        );
-        return true;
+        let sent = encoder.encode_word(flag_at(numbers, 0), message, dvcc);
+        show_fields(out, sent, numbers)?;
+        return Ok(true);
     }
     if asks(b"reset", call, counts, 1400) {
         let encoder = encoder_of(numbers, 0);
-        write(b"done");
-        show_encoder(encoder.reset(), numbers, 0);
-        return true;
+        write(out, b"done")?;
+        show_encoder(out, encoder.reset(), numbers, 0)?;
+        return Ok(true);
     }
-    false
+    Ok(false)
 }
 
 fn of_row(outcome: RowOutcome) -> Answer {
@@ -112,63 +116,78 @@ fn of_row(outcome: RowOutcome) -> Answer {
     }
 }
 
-fn show_row(pushed: PushedRow, numbers: &[u64]) {
+fn show_row<W: io::Write>(out: &mut W, pushed: PushedRow, numbers: &[u64]) -> io::Result<()> {
     let outcome = pushed.outcome;
     let deinterleaver = pushed.deinterleaver;
-    print(of_row(outcome));
-    show_deinterleaver(deinterleaver, numbers, 1);
+    print(out, of_row(outcome))?;
+    show_deinterleaver(out, deinterleaver, numbers, 1)
 }
 
 // `deinterleave FIELD` and `reset_deinterleaver`, each before a deinterleaver.
-fn deinterleaver_call(call: &[u8], counts: usize, numbers: &[u64]) -> bool {
+fn deinterleaver_call<W: io::Write>(
+    out: &mut W,
+    call: &[u8],
+    counts: usize,
+    numbers: &[u64],
+) -> io::Result<bool> {
     if asks(b"deinterleave", call, counts, 1500) {
         let deinterleaver = deinterleaver_of(numbers, 1);
-        show_row(deinterleaver.push(u16_at(numbers, 0)), numbers);
-        return true;
+        show_row(out, deinterleaver.push(u16_at(numbers, 0)), numbers)?;
+        return Ok(true);
     }
     if asks(b"reset_deinterleaver", call, counts, 1400) {
         let deinterleaver = deinterleaver_of(numbers, 0);
-        write(b"done");
-        show_deinterleaver(deinterleaver.reset(), numbers, 0);
-        return true;
+        write(out, b"done")?;
+        show_deinterleaver(out, deinterleaver.reset(), numbers, 0)?;
+        return Ok(true);
     }
-    false
+    Ok(false)
 }
 
 // `pushed FIELD DVCC`, so for `push_outcome` and `push`, and `discontinuity`, each before a receiver.
-fn receiver_call(call: &[u8], counts: usize, numbers: &[u64]) -> bool {
+fn receiver_call<W: io::Write>(
+    out: &mut W,
+    call: &[u8],
+    counts: usize,
+    numbers: &[u64],
+) -> io::Result<bool> {
     let field = u16_at(numbers, 0);
     let dvcc = byte_at(numbers, 1);
     if asks(b"pushed", call, counts, 3100) {
         let receiver = receiver_of(numbers, 2);
-        show_pushed(receiver.pushed(field, dvcc), numbers);
-        return true;
+        show_pushed(out, receiver.pushed(field, dvcc), numbers)?;
+        return Ok(true);
     }
     if asks(b"push_outcome", call, counts, 3100) {
-        show_pushed(lent(receiver_of(numbers, 2), field, dvcc), numbers);
-        return true;
+        show_pushed(out, lent(receiver_of(numbers, 2), field, dvcc), numbers)?;
+        return Ok(true);
     }
     if asks(b"push", call, counts, 3100) {
         let receiver = receiver_of(numbers, 2);
-        show_push(receiver.push(field, dvcc), numbers);
-        return true;
+        show_push(out, receiver.push(field, dvcc), numbers)?;
+        return Ok(true);
     }
     if asks(b"discontinuity", call, counts, 2900) {
         let receiver = receiver_of(numbers, 0);
-        write(b"done");
-        show_receiver(receiver.discontinuity(), numbers, 0);
-        return true;
+        write(out, b"done")?;
+        show_receiver(out, receiver.discontinuity(), numbers, 0)?;
+        return Ok(true);
     }
-    false
+    Ok(false)
 }
 
 // The calls over records print their answers themselves.
-pub fn over_record(call: &[u8], counts: usize, numbers: &[u64]) -> bool {
-    if encoder_call(call, counts, numbers) {
-        return true;
+pub fn over_record<W: io::Write>(
+    out: &mut W,
+    call: &[u8],
+    counts: usize,
+    numbers: &[u64],
+) -> io::Result<bool> {
+    if encoder_call(out, call, counts, numbers)? {
+        return Ok(true);
     }
-    if deinterleaver_call(call, counts, numbers) {
-        return true;
+    if deinterleaver_call(out, call, counts, numbers)? {
+        return Ok(true);
     }
-    receiver_call(call, counts, numbers)
+    receiver_call(out, call, counts, numbers)
 }

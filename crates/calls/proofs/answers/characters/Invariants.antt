@@ -1,6 +1,0 @@
--- `calls::answers::characters` is safe and ends. Assumes nothing.
-use Rattle.std.proofs.Common.{◌≡◌, ◌≤◌, length}
-use Rattle.calls.proofs.answers.characters.Given as goal
-
-abbrev pub invariant-loop-i : goal.invariant-loop-i
-invariant-loop-i l = (l.i-end ≡ length l.room) × (l.i ≤ l.i-end) × (length l.out ≡ length l.initial.out)

@@ -1,6 +1,0 @@
--- `calls::answers::untouched` is safe and ends. Assumes nothing.
-use Rattle.std.proofs.Common.{refl, arith}
-use Rattle.calls.proofs.answers.untouched.Goals as goal
-
-pub loop-i-init : goal.loop-i-init
-loop-i-init c = (refl, omega arith)
