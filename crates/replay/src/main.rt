@@ -107,7 +107,7 @@ fn answer_all<R: io::Read, W: io::Write>(
     Ok(())
 }
 
-// No line is longer than 2048 bytes.
+// No line is longer than 2048 bytes. Answers are written as they come: a buffer of std's would be allocated, and memory may run out.
 fn main(rt: HostRuntime) -> io::Result<()> {
     let mut piece = [0u8; 65536];
     let mut line = [0u8; 2048];
