@@ -31,8 +31,8 @@ Encoding class_one class_two frame₀ frame r =
 
 -- ---- decode_candidate
 abbrev pub decode_arguments : List ℕ → ℕ → ℕ → Arguments
-decode_arguments frame roomOne roomTwo =
-    first_refusal (exact_of 260 (length frame)) (first_refusal (exact_of 77 roomOne) (first_refusal (exact_of 82 roomTwo) (binary_of frame)))
+decode_arguments frame room_one room_two =
+    first_refusal (exact_of 260 (length frame)) (first_refusal (exact_of 77 room_one) (first_refusal (exact_of 82 room_two) (binary_of frame)))
 
 -- what an accepted frame tells beside its bits
 pub record Told : Type 0 where

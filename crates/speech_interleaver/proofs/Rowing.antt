@@ -11,32 +11,32 @@ use Rattle.bits.proofs.Listed.{is_listed}
 use Rattle.speech_interleaver.specs.Rows.{Row}
 
 -- ---- a row: its first k columns are written
-pub record Rowing (row_of columnOf f : ℕ → ℕ) (row : ℕ) (out₀ out : List ℕ) (k : ℕ) : Type 0 where
+pub record Rowing (row_of column_of f : ℕ → ℕ) (row : ℕ) (out₀ out : List ℕ) (k : ℕ) : Type 0 where
   pub size : length out ≡ 260
-  pub right : (p : ℕ) → p < 260 → row_of p ≡ row → columnOf p < k → get_or out p 0 ≡ f p
-  pub kept : (p : ℕ) → p < 260 → (row_of p ≡ row → columnOf p < k → ⊥) → get_or out p 0 ≡ get_or out₀ p 0
+  pub right : (p : ℕ) → p < 260 → row_of p ≡ row → column_of p < k → get_or out p 0 ≡ f p
+  pub kept : (p : ℕ) → p < 260 → (row_of p ≡ row → column_of p < k → ⊥) → get_or out p 0 ≡ get_or out₀ p 0
 
-pub rowing_none : {row_of columnOf f : ℕ → ℕ} {row : ℕ} {out : List ℕ} → length out ≡ 260 → Rowing row_of columnOf f row out out 0
+pub rowing_none : {row_of column_of f : ℕ → ℕ} {row : ℕ} {out : List ℕ} → length out ≡ 260 → Rowing row_of column_of f row out out 0
 rowing_none e = record { size = e; right = λ p b r h. absurd (omega arith); kept = λ p b n. refl }
 
-module _ {row_of columnOf f : ℕ → ℕ} {row : ℕ} {out₀ out : List ℕ} {k : ℕ} (s : Rowing row_of columnOf f row out₀ out k) where
+module _ {row_of column_of f : ℕ → ℕ} {row : ℕ} {out₀ out : List ℕ} {k : ℕ} (s : Rowing row_of column_of f row out₀ out k) where
   -- q is the place of the row's column k
-  pub rowing_more : {q v : ℕ} → q < 260 → row_of q ≡ row → columnOf q ≡ k → ((p : ℕ) → row_of p ≡ row → columnOf p ≡ k → p ≡ q) → v ≡ f q
-      → Rowing row_of columnOf f row out₀ (set out q v) (k + 1)
+  pub rowing_more : {q v : ℕ} → q < 260 → row_of q ≡ row → column_of q ≡ k → ((p : ℕ) → row_of p ≡ row → column_of p ≡ k → p ≡ q) → v ≡ f q
+      → Rowing row_of column_of f row out₀ (set out q v) (k + 1)
   rowing_more {q} {v} h rq cq only e =
       record {
         size = length-set out q v ∙ s.size;
         right = λ p b r c. right p b r c (ℕ_discrete p q);
-        kept = λ p b n. get_or-set_other out q p v 0 (λ same. n (ap row_of same ∙ rq) (let c : columnOf p ≡ k = ap columnOf same ∙ cq in omega arith)) ∙ s.kept p b (λ r c. n r (omega arith));
+        kept = λ p b n. get_or-set_other out q p v 0 (λ same. n (ap row_of same ∙ rq) (let c : column_of p ≡ k = ap column_of same ∙ cq in omega arith)) ∙ s.kept p b (λ r c. n r (omega arith));
       }
     where
-      right : (p : ℕ) → p < 260 → row_of p ≡ row → columnOf p < k + 1 → Dec (p ≡ q) → get_or (set out q v) p 0 ≡ f p
+      right : (p : ℕ) → p < 260 → row_of p ≡ row → column_of p < k + 1 → Dec (p ≡ q) → get_or (set out q v) p 0 ≡ f p
       right p b r c (yes same) = ap (λ (i : ℕ). get_or (set out q v) i 0) same ∙ get_or-set_same out q v 0 (omega (arith, s.size)) ∙ e ∙ ap f (sym same)
       right p b r c (no n) =
-          let other : columnOf p ≡ k → ⊥ = λ i. n (only p r i) in
+          let other : column_of p ≡ k → ⊥ = λ i. n (only p r i) in
           get_or-set_other out q p v 0 n ∙ s.right p b r (omega arith)
 
-  pub rowing_done : ((p : ℕ) → p < 260 → columnOf p < k) → Row row_of f row out₀ out
+  pub rowing_done : ((p : ℕ) → p < 260 → column_of p < k) → Row row_of f row out₀ out
   rowing_done all = record { size = s.size; right = λ p b r. s.right p b r (all p b); kept = λ p b n. s.kept p b (λ r c. n r) }
 
 -- ---- the rows: the first k are written

@@ -1,11 +1,11 @@
 // Numbers as text, written into a lent buffer. Each function answers the place after what it wrote.
 ghost use Rattle.std.specs.Prelude.{◌≡◌, [], ◌∷◌, ◌+◌, ◌≤◌, ◌<◌, length};
-ghost use Rattle.text.specs.Numerals.{decimal as decimalText, digits, glyph as digitCode, hexadecimal, places_in};
+ghost use Rattle.text.specs.Numerals.{decimal as decimal_text, digits, glyph as digit_code, hexadecimal, places_in};
 ghost use Rattle.text.specs.Writing.{Put};
 
 fn glyph(d: u64) -> u8
     requires { d < 16 }
-    ensures { result ≡ digitCode d }
+    ensures { result ≡ digit_code d }
 {
     if d < 10 { 48 + d as u8 } else { 87 + d as u8 }
 }
@@ -73,7 +73,7 @@ fn decimal_places(n: u64) -> usize
 // n in decimal.
 pub fn put_decimal(out: &mut [u8], at: usize, n: u64) -> usize
     requires { at + 20 ≤ length out.old }
-    ensures put { Put out.old at (decimalText n) out.new result }
+    ensures put { Put out.old at (decimal_text n) out.new result }
     ensures upper_bound { result ≤ at + 20 }
 {
     let k = decimal_places(n);
