@@ -18,4 +18,4 @@ words() {
     [ $whole = yes ]
 }
 
-"${FRAMES:-target/bin/frames}" < "${1:-crates/frames/cases/sample.in}" | words
+"${FRAMES:-crates/frames/out/frames}" < "${1:-crates/frames/cases/sample.in}" | words

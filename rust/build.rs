@@ -4,7 +4,7 @@ use std::path::{Path, PathBuf};
 use std::process::exit;
 use std::{env, fs};
 
-const DEFAULT: &str = "target/staticlib/libbts136.a";
+const DEFAULT: &str = "crates/bts136/out/libbts136.a";
 
 fn main() {
     println!("cargo::rerun-if-changed=build.rs");
@@ -19,8 +19,8 @@ fn main() {
     println!("cargo::rerun-if-changed={}", archive.display());
     let Ok(bytes) = fs::read(&archive) else {
         stop(format!(
-            "BTS136_LIB: no archive at {}. `rt staticlib bts136`, run at the top of the \
-             repository, makes it; a relative path counts from there.",
+            "BTS136_LIB: no archive at {}. `rt lib`, run in crates/bts136, makes it; a relative \
+             path counts from the top of the repository.",
             archive.display()
         ))
     };

@@ -11,15 +11,15 @@ use std::io::{Read, Write};
 use std::process::{Child, Command, Stdio};
 use std::{env, thread};
 
-/// Starts the program that BTS136_FRAMES names, or the one that `rt check frames` built.
+/// Starts the program that BTS136_FRAMES names, or the one that `rt run` built.
 fn start() -> Child {
-    let default = concat!(env!("CARGO_MANIFEST_DIR"), "/../target/bin/frames");
+    let default = concat!(env!("CARGO_MANIFEST_DIR"), "/../crates/frames/out/frames");
     let program = env::var("BTS136_FRAMES").unwrap_or(default.into());
     Command::new(&program)
         .stdin(Stdio::piped())
         .stdout(Stdio::piped())
         .spawn()
-        .unwrap_or_else(|error| panic!("{program}: {error}; `rt check frames` builds it"))
+        .unwrap_or_else(|error| panic!("{program}: {error}; `rt run` in crates/frames builds it"))
 }
 
 /// What the program prints of an input that comes piece by piece.

@@ -23,8 +23,8 @@
 //! who hold bits as bytes 0 and 1; it is safe on any bytes and any lengths. [`sys`] declares the
 //! library's functions and records as C has them.
 //!
-//! `rt staticlib bts136` builds the library. The variable BTS136_LIB names it where it does not
-//! lie in `target/staticlib`.
+//! `rt lib` in `crates/bts136` builds the library. The variable BTS136_LIB names it where it does
+//! not lie in `out/` there.
 #![deny(missing_docs)]
 #![deny(unsafe_code)]
 

@@ -15,7 +15,7 @@ const DVCC: u8 = 0x5a;
 
 fn main() {
     let original = env::current_exe().unwrap().with_file_name("frames");
-    let port = Path::new(env!("CARGO_MANIFEST_DIR")).join("../target/bin/frames");
+    let port = Path::new(env!("CARGO_MANIFEST_DIR")).join("../crates/frames/out/frames");
     let port = env::var("BTS136_FRAMES").map_or(port, PathBuf::from);
     println!("| a million lines of | port, s | original, s | original / port |");
     println!("|---|---|---|---|");
