@@ -1,6 +1,6 @@
 /*
  * The channel codecs of IS-136 (DCCH, FACCH, SACCH, ACELP CC1, VSELP), proved in Rattle. `rt lib` in crates/bts136 builds the library,
- * crates/bts136/out/libbts136.a, which needs memcpy and memset and nothing else.
+ * crates/bts136/out/libbts136.a, which needs memcpy, memmove and memset and nothing else.
  *
  * Bits are bytes 0 and 1, first sent first. A slice is a pointer and its length: the pointer is to as many elements as the length says,
  * and may be null where that is 0; slices of one call do not overlap. Where a length is not the right one nothing is read, so that a
