@@ -1,12 +1,13 @@
 -- Bits and bytes: reading bytes 0 and 1 as bits and writing them again. Assumes nothing.
 use mathlib.Core.Path.{◌≡◌, refl, sym, ap, ap₂, ◌∙◌}
-use mathlib.Core.Bool.{Bool, true, false}
+use mathlib.Core.Bool.{Bool, true, false, not}
 use mathlib.Core.List.{List, [], ◌∷◌, ◌++◌}
 use Prim.Native.Nat.{ℕ, zero, suc, ◌+◌, ◌*◌, ◌%◌, ◌<◌, ◌≤◌}
 use native.Mathlib.Omega.{arith}
 use lib.Dec.{eqb}
 use lib.ListN.{length, get_or, take, drop}
 use Rattle.bits.proofs.Below.{below_none, below_head, below_tail, below_cons, below_at, below_take, below_drop}
+use mir.Val.{bool_byte}
 use Rattle.bits.specs.Bits.{byte, bit, bytes, bits, all_binary, disagreement}
 
 -- ---- one bit
@@ -88,6 +89,16 @@ differ_le false false = omega arith
 differ_le false true = omega arith
 differ_le true false = omega arith
 differ_le true true = omega arith
+
+-- of two bytes, as a byte
+pub differs_of : (a b : ℕ) → a < 2 → b < 2 → bool_byte (not (eqb a b)) ≡ disagreement (bit a) (bit b)
+differs_of zero zero h k = refl
+differs_of zero (suc zero) h k = refl
+differs_of (suc zero) zero h k = refl
+differs_of (suc zero) (suc zero) h k = refl
+differs_of (suc (suc a)) b h k = let z : ⊥ = omega arith in absurd z
+differs_of zero (suc (suc b)) h k = let z : ⊥ = omega arith in absurd z
+differs_of (suc zero) (suc (suc b)) h k = let z : ⊥ = omega arith in absurd z
 
 pub differ_same : (a : Bool) → disagreement a a ≡ 0
 differ_same false = refl

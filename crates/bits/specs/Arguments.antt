@@ -1,21 +1,24 @@
 -- What a call tests first, in document 01's order: each length in the order of the arguments, then the symbols. The first refusal among the tests is the answer.
-use Rattle.std.specs.Prelude.{Bool, cond, List, ℕ, eqb, ltb, length}
+use Rattle.std.specs.Prelude.{Bool, cond, List, ℕ, eqb, ltb, length, Result, Ok, Err}
 use Rattle.bits.specs.Bits.{all_binary}
 use Rattle.bits.specs.declared.Refusal.TheVariants.{Length, Symbol}
-use Rattle.bits.specs.declared.arguments.Arguments.{Arguments}
-use Rattle.bits.specs.declared.arguments.Arguments.TheVariants.{Passed, Refused}
+use Rattle.bits.specs.declared.Refusal.{Refusal}
+
+-- what the tests answer: nothing, or the first refusal
+abbrev pub Arguments : Type 0
+Arguments = Result (Unit {0}) Refusal
 
 abbrev pub first_refusal : Arguments → Arguments → Arguments
-first_refusal (Refused why) later = Refused why
-first_refusal Passed later = later
+first_refusal (Err why) later = Err why
+first_refusal (Ok passed) later = later
 
 -- Length where a slice has not the exact length
 abbrev pub exact_of : ℕ → ℕ → Arguments
-exact_of expected actual = cond (eqb expected actual) Passed (Refused (Length expected actual))
+exact_of expected actual = cond (eqb expected actual) (Ok tt) (Err (Length expected actual))
 
 -- Symbol unless a test is passed
 abbrev pub symbol_unless : Bool → Arguments
-symbol_unless passed = cond passed Passed (Refused Symbol)
+symbol_unless passed = cond passed (Ok tt) (Err Symbol)
 
 -- Symbol where a byte is no bit
 abbrev pub binary_of : List ℕ → Arguments

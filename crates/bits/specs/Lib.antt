@@ -3,7 +3,6 @@ pub mod Bits
 pub mod Places
 pub mod Numbers
 pub mod Refusals
-pub mod Pushes
 pub mod Arguments
 pub mod Observed
 pub mod Calls

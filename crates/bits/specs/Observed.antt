@@ -1,8 +1,7 @@
 -- Received bits, of which some were not observed: a byte 2 stands for one that was not.
 use Rattle.std.specs.Prelude.{Bool, cond, List, [], ◌∷◌, ℕ, ◌+◌, eqb, length}
-use Rattle.bits.specs.Arguments.{first_refusal, exact_of, symbol_unless}
+use Rattle.bits.specs.Arguments.{Arguments, first_refusal, exact_of, symbol_unless}
 use Rattle.bits.specs.Bits.{all_below, bit, disagreement}
-use Rattle.bits.specs.declared.arguments.Arguments.{Arguments}
 
 -- every byte is 0, 1 or 2
 abbrev pub all_erasable : List ℕ → Bool

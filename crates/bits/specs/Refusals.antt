@@ -1,5 +1,6 @@
--- The refusals of document 01 by number, and what a call can answer.
-use Rattle.std.specs.Prelude.{ℕ}
+-- The refusals of document 01 by number.
+use Rattle.std.specs.Prelude.{ℕ, List, ◌++◌, codes}
+use Rattle.std.specs.Fmt.{decimal}
 use Rattle.bits.specs.declared.Refusal.{Refusal}
 use Rattle.bits.specs.declared.Refusal.TheVariants.{Length, Symbol, Crc, InsufficientObservations, Ambiguous, Reserved, Line, State}
 
@@ -35,8 +36,13 @@ actual_of Reserved = 0
 actual_of Line = 0
 actual_of State = 0
 
--- What a call answers: a result, or a refusal, where nothing was written and no state has moved. Each answer enum of a crate has one function into this. What a push
--- to a receiver answers is in Pushes.antt.
-pub data Answer (A : Type 0) : Type 0 where
-  accepted : A → Answer A
-  refused : Refusal → Answer A
+-- what a refusal says to a reader
+abbrev pub message_of : Refusal → List ℕ
+message_of (Length expected actual) = codes "a length of " ++ (decimal actual ++ (codes " where it must be " ++ decimal expected))
+message_of Symbol = codes "a byte that is no bit, or a number out of its range"
+message_of Crc = codes "a wrong checksum, or a reliability that is not finite"
+message_of InsufficientObservations = codes "too few observed bits"
+message_of Ambiguous = codes "two words equally near"
+message_of Reserved = codes "a reserved bit that is set"
+message_of Line = codes "a line of none of the forms"
+message_of State = codes "a state out of its range"

@@ -1,86 +1,63 @@
-// Whether a call can go on with its arguments: each length in their order, then the symbols. specs/Arguments.antt has the tests.
+// What a call tests of its arguments before it goes on: each length in their order, then the symbols. specs/Arguments.antt has the tests.
 ghost use Rattle.std.specs.Prelude.{◌≡◌};
-ghost use Rattle.bits.specs.Bits.{all_below};
-ghost use Rattle.bits.specs.Arguments.{below_of, binary_of, bits_and_room, exact_bits, exact_of, first_refusal, symbol_unless, two_and_room};
+ghost use Rattle.bits.specs.Arguments.{below_of, binary_of, bits_and_room, exact_bits, exact_of, symbol_unless, two_and_room};
 
-use crate::{Refusal, all_below};
-
-#[derive(Clone, Copy)]
-pub enum Arguments {
-    Passed,
-    Refused(Refusal),
-}
-
-// The first refusal of two tests.
-pub fn first_refusal(earlier: Arguments, later: Arguments) -> Arguments
-    ensures { result ≡ first_refusal earlier later }
-{
-    match earlier {
-        Arguments::Refused(why) => Arguments::Refused(why),
-        Arguments::Passed => later,
-    }
-}
+use crate::{Refusal, all_binary};
 
 // Refused where a slice has not the exact length.
-pub fn exact(wanted: usize, given: usize) -> Arguments
+pub fn exact(wanted: usize, given: usize) -> Result<(), Refusal>
     ensures { result ≡ exact_of wanted given }
 {
     if wanted == given {
-        return Arguments::Passed;
+        return Ok(());
     }
-    Arguments::Refused(Refusal::Length {
+    Err(Refusal::Length {
         expected: wanted,
         actual: given,
     })
 }
 
 // Refused with Symbol where a test is not passed.
-pub fn symbol_unless(passed: bool) -> Arguments
+pub fn symbol_unless(passed: bool) -> Result<(), Refusal>
     ensures { result ≡ symbol_unless passed }
 {
-    if passed {
-        return Arguments::Passed;
-    }
-    Arguments::Refused(Refusal::Symbol)
+    if passed { Ok(()) } else { Err(Refusal::Symbol) }
 }
 
-// The symbols of a slice, after other tests. Where one of these is not passed no byte is read: the length may be that of no memory.
-pub fn then_below(earlier: Arguments, limit: u8, s: &[u8]) -> Arguments
-    ensures { result ≡ first_refusal earlier (symbol_unless (all_below limit s.now)) }
+// Refused where a byte is no bit.
+pub fn binary(s: &[u8]) -> Result<(), Refusal>
+    ensures { result ≡ binary_of s.now }
 {
-    if let Arguments::Refused(why) = earlier {
-        return Arguments::Refused(why);
-    }
-    symbol_unless(all_below(limit, s))
-}
-
-// The same for bits.
-pub fn then_bits(earlier: Arguments, s: &[u8]) -> Arguments
-    ensures { result ≡ first_refusal earlier (binary_of s.now) }
-{
-    then_below(earlier, 2, s)
+    symbol_unless(all_binary(s))
 }
 
 // Refused where a number is not below its limit.
-pub fn below(limit: u64, x: u64) -> Arguments
+pub fn below(limit: u64, x: u64) -> Result<(), Refusal>
     ensures { result ≡ below_of limit x }
 {
     symbol_unless(x < limit)
 }
 
 // So many bits: the length, then the symbols.
-pub fn exact_bits(wanted: usize, s: &[u8]) -> Arguments
-    ensures { result ≡ exact_bits wanted s.now }
+pub fn exact_bits(n: usize, s: &[u8]) -> Result<(), Refusal>
+    ensures { result ≡ exact_bits n s.now }
 {
-    then_bits(exact(wanted, s.len()), s)
+    exact(n, s.len())?;
+    binary(s)
 }
 
 // So many bits, and room for so many of the result: both lengths, then the symbols.
-pub fn bits_and_room(wanted: usize, s: &[u8], wanted_room: usize, room: usize) -> Arguments
+pub fn bits_and_room(
+    wanted: usize,
+    s: &[u8],
+    wanted_room: usize,
+    room: usize,
+) -> Result<(), Refusal>
     ensures { result ≡ bits_and_room wanted s.now wanted_room room }
 {
-    let lengths = first_refusal(exact(wanted, s.len()), exact(wanted_room, room));
-    then_bits(lengths, s)
+    exact(wanted, s.len())?;
+    exact(wanted_room, room)?;
+    binary(s)
 }
 
 // So many bits, so many more, and room for the result: each length, then the symbols.
@@ -91,10 +68,12 @@ pub fn two_and_room(
     b: &[u8],
     wanted_room: usize,
     room: usize,
-) -> Arguments
+) -> Result<(), Refusal>
     ensures { result ≡ two_and_room wanted a.now wanted_second b.now wanted_room room }
 {
-    let later = first_refusal(exact(wanted_second, b.len()), exact(wanted_room, room));
-    let lengths = first_refusal(exact(wanted, a.len()), later);
-    then_bits(then_bits(lengths, a), b)
+    exact(wanted, a.len())?;
+    exact(wanted_second, b.len())?;
+    exact(wanted_room, room)?;
+    binary(a)?;
+    binary(b)
 }

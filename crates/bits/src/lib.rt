@@ -4,14 +4,14 @@
 
 pub mod arguments;
 pub mod observed;
-pub mod refusals;
+mod refusals;
 
-ghost use Rattle.std.specs.Prelude.{◌≡◌, true, ◌&&◌, ◌<◌, ◌≤◌, length};
+ghost use Rattle.std.specs.Prelude.{◌≡◌, true, ◌<◌, ◌≤◌, length};
 ghost use Rattle.bits.specs.Bits.{all_below, all_binary, bit, bits, bytes, disagreement};
 ghost use Rattle.bits.specs.Numbers.{packed, unpacked};
 
-// Why a call is refused. `refusals::number` gives document 01's number of each.
-#[derive(Clone, Copy)]
+// Why a call is refused. `u8::from` gives document 01's number of each.
+#[derive(Clone, Copy, Debug, PartialEq, Eq)]
 pub enum Refusal {
     // A lent slice is not of the exact length.
     Length { expected: usize, actual: usize },
@@ -25,34 +25,13 @@ pub enum Refusal {
     State,
 }
 
-// What a call that writes bits answers.
-#[derive(Clone, Copy)]
-pub enum Wrote {
-    Done,
-    Refused(Refusal),
-}
-
-// A byte as an index.
-pub fn wide(x: u8) -> usize
-    ensures { (result ≡ x) × (result < 256) }
-{
-    x as usize
-}
-
-// Both, with no way out between: a loop of tests that does not end early is vectorised.
-pub fn both(a: bool, b: bool) -> bool
-    ensures { result ≡ (a && b) }
-{
-    if a { b } else { false }
-}
-
-// Whether every byte is below a limit.
+// Whether every byte is below a limit. The loop has no way out before its end, so that it is vectorised.
 pub fn all_below(limit: u8, s: &[u8]) -> bool
     ensures { result ≡ all_below limit s.now }
 {
     let mut passed = true;
-    for i in 0..s.len() {
-        passed = both(passed, s[i] < limit);
+    for x in s {
+        passed &= *x < limit;
     }
     passed
 }
@@ -70,8 +49,8 @@ pub fn pack(s: &[u8]) -> u64
     ensures { result ≡ packed (bits s.now) }
 {
     let mut value: u64 = 0;
-    for i in 0..s.len() {
-        value = value * 2 + wide(s[i]) as u64;
+    for b in s {
+        value = value * 2 + u64::from(*b);
     }
     value
 }
@@ -81,9 +60,7 @@ pub fn unpack(value: u64, s: &mut [u8])
     ensures { s.new ≡ bytes (unpacked (length s.old) value) }
 {
     let mut rest = value;
-    let mut i = s.len();
-    while 0 < i {
-        i -= 1;
+    for i in (0..s.len()).rev() {
         s[i] = (rest % 2) as u8;
         rest /= 2;
     }
@@ -94,5 +71,5 @@ pub fn differs(a: u8, b: u8) -> u8
     requires { (a < 2) × (b < 2) }
     ensures { (result ≡ disagreement (bit a) (bit b)) × (result ≤ 1) }
 {
-    if a == b { 0 } else { 1 }
+    u8::from(a != b)
 }

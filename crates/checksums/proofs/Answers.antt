@@ -7,34 +7,13 @@ use native.Mathlib.Omega.{arith}
 use lib.ListN.{length}
 use Rattle.bits.specs.Bits.{bits, all_binary}
 use Rattle.bits.specs.Numbers.{packed, unpacked}
-use Rattle.bits.specs.Refusals.{accepted, refused}
-use Rattle.bits.specs.declared.Refusal.TheVariants.{Symbol}
 use Rattle.bits.proofs.Packed.{packed_below}
 use Rattle.checksums.proofs.Division.{check_bits-length}
-use Rattle.checksums.specs.Checksums.{check_bits, ccitt, checksum_from, checksum_of, checksum7_of, answer_for_bits}
+use Rattle.checksums.specs.Checksums.{check_bits, ccitt, checksum_from, checksum_of, checksum7_of}
 use Rattle.checksums.specs.Feedback.{register_after}
-use Rattle.checksums.proofs.Shifting.{Remains, run_once}
+use Rattle.checksums.proofs.Shifting.{after_zero}
 use Rattle.checksums.proofs.Fours.{two_fours}
 use Rattle.checksums.proofs.Runs.{from_after, runs_join, from_colour}
-
--- ---- the test of the bytes
-not_one : (b : Bool) → not b ≡ false → b ≡ true
-not_one true h = refl
-not_one false h = sym h
-
-not_zero : (b : Bool) → not b ≡ true → b ≡ false
-not_zero false h = refl
-not_zero true h = sym h
-
-module _ (l : List ℕ) {a : Bool} (e : a ≡ all_binary l) where
-  pub are_bits : not a ≡ false → all_binary l ≡ true
-  are_bits h = sym e ∙ not_one a h
-
-  pub of_bits : {x y : ℕ} → not a ≡ false → x ≡ y → accepted x ≡ answer_for_bits l y
-  of_bits {x} {y} h d = ap accepted d ∙ sym (ap (λ (b : Bool). cond b (accepted y) (refused Symbol)) (are_bits h))
-
-  pub not_bits : (x : ℕ) → not a ≡ true → refused Symbol ≡ answer_for_bits l x
-  not_bits x h = sym (ap (λ (b : Bool). cond b (accepted x) (refused Symbol)) (sym e ∙ not_zero a h))
 
 -- ---- the values
 -- the colour code in two fours, and then the information
@@ -47,9 +26,9 @@ value16 l dvcc {x} {y} ex ey e =
     ∙ runs_join 0 (unpacked 4 (dvcc / 16)) (unpacked 4 (dvcc % 16)) ∙ ap (checksum_from 0) (two_fours dvcc) in
     e ∙ ap (λ (h : ℕ). checksum_from h (bits l)) colour ∙ from_colour (bits l) dvcc
 
-pub value7 : (l : List ℕ) {r : ℕ} → Remains 64 55 0 (bits l) r → r ≡ checksum7_of (bits l)
+pub value7 : (l : List ℕ) {r : ℕ} → r ≡ register_after 7 55 0 (bits l) → r ≡ checksum7_of (bits l)
 unfolding checksum7_of unpacked
-value7 l e = run_once 7 refl (omega arith) (bits l) e
+value7 l e = e ∙ after_zero 7 55 (bits l)
 
 -- a checksum has 16 bits
 pub checksum_below : (information : List Bool) (dvcc : ℕ) → checksum_of information dvcc < 65536

@@ -5,18 +5,20 @@ use mathlib.Core.Bool.{Bool, true, false, cond}
 use mathlib.Core.List.{List, [], ◌∷◌, ◌++◌}
 use Prim.Native.Nat.{ℕ, zero, suc, ◌+◌, ◌-◌, ◌*◌, ◌/◌, ◌%◌, ◌^◌, ◌<◌, ◌≤◌}
 use native.Mathlib.Omega.{arith}
+use native.Mathlib.Nat.{zero-mul, suc-mul}
 use lib.Bits.{bit_xor, xor_comm, xor_lt}
-use lib.ListN.{length, get_or, take, drop, length-drop}
+use Rattle.std.specs.Simd.{first_chunks}
+use Rattle.std.proofs.lemmas.List.{take-append-drop, drop-drop}
+use lib.ListN.{length, get_or, take, drop, length-drop, length-map}
 use lib.Pow.{shr_lt, shr-shr}
-use lib.Seq.{take_all}
+use lib.Seq.{length-take-le}
 use Rattle.bits.specs.Bits.{bit, bits, all_binary, ◌⊕◌}
 use Rattle.bits.specs.Numbers.{packed, unpacked}
-use Rattle.bits.proofs.Binary.{byte-bit, binary_drop}
-use Rattle.bits.proofs.Packed.{packed_snoc, packed-unpacked, packed-unpacked_below, unpacked-length, unpacked-packed}
-use Rattle.bits.proofs.Tally.{drop_two}
+use Rattle.bits.proofs.Binary.{bits-append, binary_take, binary_drop}
+use Rattle.bits.proofs.Packed.{packed_snoc, packed-unpacked, packed-unpacked_below, packed_below, unpacked-length, unpacked-packed}
 use Rattle.checksums.specs.Checksums.{added, ccitt}
 use Rattle.checksums.specs.Feedback.{stepped, machine, register_after}
-use Rattle.checksums.proofs.Shifting.{Remains, packed-added, after-machine, after_below, after-append}
+use Rattle.checksums.proofs.Shifting.{bits_again, packed-added, after-machine, after_below, after-append}
 
 -- the highest m of m + k bits are those of the quotient
 unpacked_split : (m k x : ℕ) → unpacked (m + k) x ≡ unpacked m (x / 2 ^ k) ++ unpacked k x
@@ -101,15 +103,7 @@ module _ (x four : ℕ) (hx : x < 65536) (hf : four < 16) where
       ∙ ap (λ (r : List Bool). packed (machine ccitt r (unpacked 4 four))) (sym (unpacked_split 4 12 x))
       ∙ sym (after-machine 16 4129 x (unpacked 4 four))
 
--- ---- numbers of four bits
-pub four_number : (a b c d : ℕ) → a < 2 → b < 2 → c < 2 → d < 2
-    → unpacked 4 (a * 8 + b * 4 + c * 2 + d) ≡ bit a ∷ bit b ∷ bit c ∷ bit d ∷ []
-unfolding packed
-four_number a b c d ha hb hc hd =
-    let e : packed (bit a ∷ bit b ∷ bit c ∷ bit d ∷ []) ≡ a * 8 + b * 4 + c * 2 + d =
-    omega (arith, byte-bit a ha, byte-bit b hb, byte-bit c hc, byte-bit d hd) in
-    ap (unpacked 4) (sym e) ∙ unpacked-packed (bit a ∷ bit b ∷ bit c ∷ bit d ∷ [])
-
+-- ---- bytes
 -- the eight bits of a byte are those of its halves
 pub two_fours : (x : ℕ) → unpacked 4 (x / 16) ++ unpacked 4 (x % 16) ≡ unpacked 8 x
 two_fours x =
@@ -117,15 +111,18 @@ two_fours x =
     (ap (unpacked 4) (sym (packed-unpacked 4 x)) ∙ ap (λ (n : ℕ). unpacked n (packed (unpacked 4 x))) (sym (unpacked-length 4 x)) ∙ unpacked-packed (unpacked 4 x))
     ∙ sym (unpacked_split 4 4 x)
 
--- four more places of a list
-drop_four : (l : List ℕ) (k : ℕ) → k + 3 < length l
-    → drop k l ≡ get_or l k 0 ∷ get_or l (k + 1) 0 ∷ get_or l (k + 2) 0 ∷ get_or l (k + 3) 0 ∷ drop (k + 4) l
-drop_four l k h =
-    let a : k + 2 + 1 ≡ k + 3 = omega arith in
-    let b : k + 2 + 2 ≡ k + 4 = omega arith in
-    drop_two l k 0 (omega arith)
-    ∙ ap (λ (r : List ℕ). get_or l k 0 ∷ get_or l (k + 1) 0 ∷ r)
-    (drop_two l (k + 2) 0 (omega arith) ∙ ap₂ (λ (i j : ℕ). get_or l (k + 2) 0 ∷ get_or l i 0 ∷ drop j l) a b)
+-- ---- a list in chunks of n
+pub chunk_at : (n k : ℕ) (l : List ℕ) (i : ℕ) → i < k → get_or (first_chunks n k l) i [] ≡ take n (drop (i * n) l)
+chunk_at n zero l i h = let z : ⊥ = omega arith in absurd z
+chunk_at n (suc k) l zero h = ap (λ (j : ℕ). take n (drop j l)) (sym (zero-mul n))
+chunk_at n (suc k) l (suc i) h =
+    chunk_at n k (drop n l) i (omega arith) ∙ ap (take n) (drop-drop (i * n) n l) ∙ ap (λ (j : ℕ). take n (drop j l)) (omega (arith, suc-mul i n))
+
+-- the fours of a list
+pub four_at : (s : List ℕ) {fours : List (List ℕ)} {i : ℕ} → fours ≡ first_chunks 4 (length s / 4) s → length fours ≡ length s / 4 → i < length fours
+    → (get_or fours i [] ≡ take 4 (drop (i * 4) s)) × (i * 4 + 4 ≤ length s)
+four_at s {fours} {i} e size h =
+    (ap (λ (l : List (List ℕ)). get_or l i []) e ∙ chunk_at 4 (length s / 4) s i (omega arith), omega arith)
 
 -- ---- the loop of `checksum_from_bits`: the bits from k on, into the register as it is now, end where all of them end
 pub record ByFours (s : List ℕ) (x₀ x k : ℕ) : Type 0 where
@@ -136,30 +133,34 @@ pub record ByFours (s : List ℕ) (x₀ x k : ℕ) : Type 0 where
 pub by_fours_none : (s : List ℕ) (x : ℕ) → x < 65536 → ByFours s x x 0
 by_fours_none s x h = record { low = omega arith; fits = h; rest = refl }
 
+-- four bits
+pub four_length : (s : List ℕ) (k : ℕ) → k + 4 ≤ length s → length (take 4 (drop k s)) ≡ 4
+four_length s k h = length-take-le 4 (drop k s) (omega (arith, length-drop k s))
+
+pub four_binary : (s : List ℕ) (k : ℕ) → all_binary s ≡ true → all_binary (take 4 (drop k s)) ≡ true
+four_binary s k e = binary_take 4 (drop k s) (binary_drop k s e)
+
+pub four_below : (s : List ℕ) (k : ℕ) → k + 4 ≤ length s → packed (bits (take 4 (drop k s))) < 16
+four_below s k h =
+    subst (λ (n : ℕ). packed (bits (take 4 (drop k s))) < 2 ^ n) (length-map (take 4 (drop k s)) bit ∙ four_length s k h) (packed_below (bits (take 4 (drop k s))))
+
 module _ {s : List ℕ} {x₀ x k : ℕ} (i : ByFours s x₀ x k) where
-  pub by_fours_more : (four y : ℕ) → 4 ≤ length s - k
-      → unpacked 4 four ≡ bit (get_or s k 0) ∷ bit (get_or s (k + 1) 0) ∷ bit (get_or s (k + 2) 0) ∷ bit (get_or s (k + 3) 0) ∷ []
+  pub by_fours_more : {four y : ℕ} → k + 4 ≤ length s → four ≡ packed (bits (take 4 (drop k s)))
       → y ≡ register_after 16 4129 x (unpacked 4 four) → ByFours s x₀ y (k + 4)
-  by_fours_more four y h e f =
+  by_fours_more {four} {y} h e f =
+      let u : List ℕ = take 4 (drop k s) in
+      let again : unpacked 4 four ≡ bits u = ap (unpacked 4) e ∙ bits_again 4 (bits u) (length-map u bit ∙ four_length s k h) in
       record {
-        low = omega arith;
+        low = h;
         fits = subst (λ (r : ℕ). r < 65536) (sym f) (after_below 16 4129 x (unpacked 4 four));
         rest =
             ap (λ (r : ℕ). register_after 16 4129 r (bits (drop (k + 4) s))) f
             ∙ after-append 16 4129 x (unpacked 4 four) (bits (drop (k + 4) s))
-            ∙ ap (λ (u : List Bool). register_after 16 4129 x (u ++ bits (drop (k + 4) s))) e
-            ∙ ap (λ (l : List ℕ). register_after 16 4129 x (bits l)) (sym (drop_four s k (omega arith)))
+            ∙ ap (λ (w : List Bool). register_after 16 4129 x (w ++ bits (drop (k + 4) s))) again
+            ∙ ap (register_after 16 4129 x)
+            (ap (λ (l : List ℕ). bits u ++ bits l) (sym (drop-drop 4 k s)) ∙ sym (bits-append u (drop 4 (drop k s))) ∙ ap bits (take-append-drop 4 (drop k s)))
             ∙ i.rest;
       }
 
-  -- all the places from k on
-  part_whole : take (length s - k) (drop k s) ≡ drop k s
-  part_whole = take_all (length s - k) (drop k s) (omega (arith, length-drop k s))
-
-  pub part_binary : all_binary s ≡ true → all_binary (take (length s - k) (drop k s)) ≡ true
-  part_binary e = ap all_binary part_whole ∙ binary_drop k s e
-
-  pub by_fours_done : {r : ℕ} → Remains 32768 4129 x (bits (take (length s - k) (drop k s))) r → r ≡ register_after 16 4129 x₀ (bits s)
-  by_fours_done e =
-      e 16 (record { width = refl; divisor = omega arith; value = i.fits })
-      ∙ ap (λ (l : List ℕ). register_after 16 4129 x (bits l)) part_whole ∙ i.rest
+  pub by_fours_done : {r : ℕ} → r ≡ register_after 16 4129 x (bits (drop k s)) → r ≡ register_after 16 4129 x₀ (bits s)
+  by_fours_done e = e ∙ i.rest

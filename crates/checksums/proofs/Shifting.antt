@@ -3,20 +3,23 @@
 use mathlib.Core.Path.{◌≡◌, refl, sym, ap, ap₂, subst, ◌∙◌}
 use mathlib.Core.Bool.{Bool, true, false, cond}
 use mathlib.Core.List.{List, [], ◌∷◌, ◌++◌}
-use Prim.Native.Nat.{ℕ, zero, suc, ◌+◌, ◌*◌, ◌/◌, ◌%◌, ◌^◌, ◌<◌, ◌≤◌}
+use Prim.Native.Nat.{ℕ, zero, suc, ◌+◌, ◌*◌, ◌/◌, ◌-◌, ◌%◌, ◌^◌, ◌<◌, ◌≤◌}
 use native.Mathlib.Omega.{arith}
 use native.Mathlib.Nat.{pow-suc, add-zero, zero-div}
 use native.Mathlib.Numerals.{add-one}
-use lib.Pow.{pow_pos, shr_lt}
+use lib.Dec.{T, eqb, eqb→eq}
+use lib.Pow.{shr_lt}
 use lib.Bits.{bit_xor, xor_block, xor_comm}
 use lib.ListN.{length, replicate, length-append, get_or, drop, drop_of_length-le}
 use lib.Seq.{drop-cons}
+use borrow.Author.Tests.{ne_eqb}
+use Rattle.bits.proofs.Tested.{below}
 use Rattle.bits.specs.Bits.{byte, bit, bits, ◌⊕◌}
 use Rattle.bits.specs.Numbers.{packed, unpacked}
 use Rattle.bits.proofs.Binary.{byte_one, bit_one, differ_other}
 use Rattle.bits.proofs.Packed.{unpacked-length, packed_below, packed_snoc, packed-unpacked, packed-unpacked_below, unpacked-packed}
 use Rattle.checksums.specs.Checksums.{added, remainder, check_bits}
-use Rattle.checksums.specs.Feedback.{stepped, machine, Sized, register_after}
+use Rattle.checksums.specs.Feedback.{stepped, machine, register_after}
 use Rattle.checksums.proofs.Division.{sum_self, added-length, stepped-length, machine-length, machine-append, machine-remainder, machine-check_bits}
 
 byte_sum : (a b : Bool) → byte (a ⊕ b) ≡ bit_xor (byte a) (byte b)
@@ -54,35 +57,50 @@ moved_up m x = packed_snoc (unpacked m x) false ∙ add-zero (packed (unpacked m
 highest : (m top : ℕ) → 2 ^ suc m ≡ top * 2 → top ≡ 2 ^ m
 highest m top e = omega (arith, pow-suc 2 m)
 
-module _ {top p x i : ℕ} where
-  pub shifted_same : (n : ℕ) → Sized n top p x → x / top ≡ i → x % top * 2 ≡ packed (stepped (unpacked n p) (unpacked n x) (bit i))
-  unfolding unpacked stepped
-  shifted_same zero z h = let e : ⊥ = omega (arith, z.width) in absurd e
-  shifted_same (suc m) z h =
-      let e : top ≡ 2 ^ m = highest m top z.width in
-      let f : bit (x / 2 ^ m) ⊕ bit i ≡ false = sum_same (x / 2 ^ m) i (ap (λ (t : ℕ). x / t) (sym e) ∙ h) in
-      let r : List Bool = unpacked m x ++ (false ∷ []) in
-      ap (λ (t : ℕ). x % t * 2) e ∙ sym (moved_up m x) ∙ ap (λ (b : Bool). packed (cond b (added (unpacked (suc m) p) r) r)) (sym f)
+-- the weight of the highest of n bits, as `shifted_in` computes it
+abbrev pub top_of : ℕ → ℕ
+top_of n = 1 * 2 ^ (n - 1) % 65536
 
-  pub shifted_other : (n : ℕ) → Sized n top p x → i < 2 → (x / top ≡ i → ⊥)
-      → bit_xor (x % top * 2) p ≡ packed (stepped (unpacked n p) (unpacked n x) (bit i))
-  unfolding unpacked stepped
-  shifted_other zero z b h = let e : ⊥ = omega (arith, z.width) in absurd e
-  shifted_other (suc m) z b h =
-      let e : top ≡ 2 ^ m = highest m top z.width in
-      let q : x / 2 ^ m < 2 = shr_lt 1 m (subst (λ (k : ℕ). x < 2 ^ k) (omega arith) z.value) in
-      let f : bit (x / 2 ^ m) ⊕ bit i ≡ true = sum_other (x / 2 ^ m) i q b (λ d. h (ap (λ (t : ℕ). x / t) e ∙ d)) in
-      let r : List Bool = unpacked m x ++ (false ∷ []) in
-      let l : length (unpacked (suc m) p) ≡ length r = omega (arith, unpacked-length (suc m) p, length-append (unpacked m x) (false ∷ []), unpacked-length m x) in
-      ap₂ bit_xor (ap (λ (t : ℕ). x % t * 2) e ∙ sym (moved_up m x)) (sym (packed-unpacked_below (suc m) p z.divisor))
-      ∙ xor_comm (packed r) (packed (unpacked (suc m) p))
-      ∙ sym (packed-added (unpacked (suc m) p) r l)
-      ∙ ap (λ (b : Bool). packed (cond b (added (unpacked (suc m) p) r) r)) (sym f)
+top_right : ℕ → Bool
+top_right n = cond (eqb n 0) true (eqb (2 ^ n) (top_of n * 2))
+
+pub top_width : (n : ℕ) → 0 < n → n ≤ 16 → 2 ^ n ≡ top_of n * 2
+unfolding top_right
+top_width n h k =
+    let t : T (cond (eqb n 0) true (eqb (2 ^ n) (top_of n * 2))) = below top_right 17 tt n (omega arith) in
+    eqb→eq (2 ^ n) (top_of n * 2) (subst (λ (b : Bool). T (cond b true (eqb (2 ^ n) (top_of n * 2)))) (ne_eqb n 0 (λ e. absurd_zero n e h)) t)
+  where
+    absurd_zero : (m : ℕ) → m ≡ 0 → 0 < m → ⊥
+    absurd_zero m e z = let c : ⊥ = omega arith in c
+
+pub shifted_same : (top p x i n : ℕ) → 0 < n → 2 ^ n ≡ top * 2 → x / top ≡ i → x % top * 2 ≡ packed (stepped (unpacked n p) (unpacked n x) (bit i))
+unfolding unpacked stepped
+shifted_same top p x i zero z w h = let e : ⊥ = omega arith in absurd e
+shifted_same top p x i (suc m) z w h =
+    let e : top ≡ 2 ^ m = highest m top w in
+    let f : bit (x / 2 ^ m) ⊕ bit i ≡ false = sum_same (x / 2 ^ m) i (ap (λ (t : ℕ). x / t) (sym e) ∙ h) in
+    let r : List Bool = unpacked m x ++ (false ∷ []) in
+    ap (λ (t : ℕ). x % t * 2) e ∙ sym (moved_up m x) ∙ ap (λ (b : Bool). packed (cond b (added (unpacked (suc m) p) r) r)) (sym f)
+
+pub shifted_other : (top p x i n : ℕ) → 0 < n → 2 ^ n ≡ top * 2 → p < 2 ^ n → x < 2 ^ n → i < 2 → (x / top ≡ i → ⊥)
+    → bit_xor (x % top * 2) p ≡ packed (stepped (unpacked n p) (unpacked n x) (bit i))
+unfolding unpacked stepped
+shifted_other top p x i zero z w d v b h = let e : ⊥ = omega arith in absurd e
+shifted_other top p x i (suc m) z w d v b h =
+    let e : top ≡ 2 ^ m = highest m top w in
+    let q : x / 2 ^ m < 2 = shr_lt 1 m (subst (λ (k : ℕ). x < 2 ^ k) (omega arith) v) in
+    let f : bit (x / 2 ^ m) ⊕ bit i ≡ true = sum_other (x / 2 ^ m) i q b (λ c. h (ap (λ (t : ℕ). x / t) e ∙ c)) in
+    let r : List Bool = unpacked m x ++ (false ∷ []) in
+    let l : length (unpacked (suc m) p) ≡ length r = omega (arith, unpacked-length (suc m) p, length-append (unpacked m x) (false ∷ []), unpacked-length m x) in
+    ap₂ bit_xor (ap (λ (t : ℕ). x % t * 2) e ∙ sym (moved_up m x)) (sym (packed-unpacked_below (suc m) p d))
+    ∙ xor_comm (packed r) (packed (unpacked (suc m) p))
+    ∙ sym (packed-added (unpacked (suc m) p) r l)
+    ∙ ap (λ (b : Bool). packed (cond b (added (unpacked (suc m) p) r) r)) (sym f)
 
 -- ---- the register after some bits
 -- a list of n bits is that of its number
-same_bits_lem : (n : ℕ) (w : List Bool) → length w ≡ n → unpacked n (packed w) ≡ w
-same_bits_lem n w e = ap (λ (k : ℕ). unpacked k (packed w)) (sym e) ∙ unpacked-packed w
+pub bits_again : (n : ℕ) (w : List Bool) → length w ≡ n → unpacked n (packed w) ≡ w
+bits_again n w e = ap (λ (k : ℕ). unpacked k (packed w)) (sym e) ∙ unpacked-packed w
 
 below_width : (n : ℕ) (w : List Bool) → length w ≡ n → packed w < 2 ^ n
 below_width n w e = subst (λ (k : ℕ). packed w < 2 ^ k) e (packed_below w)
@@ -104,7 +122,7 @@ machine_width n p x u = machine-length (unpacked n p) (unpacked n x) u ∙ unpac
 
 -- the register's bits
 after-bits : (n p x : ℕ) (u : List Bool) → unpacked n (register_after n p x u) ≡ machine (unpacked n p) (unpacked n x) u
-after-bits n p x u = ap (unpacked n) (after-machine n p x u) ∙ same_bits_lem n (machine (unpacked n p) (unpacked n x) u) (machine_width n p x u)
+after-bits n p x u = ap (unpacked n) (after-machine n p x u) ∙ bits_again n (machine (unpacked n p) (unpacked n x) u) (machine_width n p x u)
 
 pub after_below : (n p x : ℕ) (u : List Bool) → register_after n p x u < 2 ^ n
 after_below n p x u =
@@ -125,48 +143,37 @@ after_zero n p u =
     ∙ ap packed (machine-check_bits (unpacked n p) u)
 
 -- ---- the loop of `run`: the bits from k on, into the register as it is now, end where all of them end
-pub record Running (s : List ℕ) (top p x₀ x k : ℕ) : Type 0 where
+pub record Running (n p x₀ : ℕ) (s : List ℕ) (x k : ℕ) : Type 0 where
   pub low : k ≤ length s
-  pub fits : (n : ℕ) → Sized n top p x₀ → x < 2 ^ n
-  pub rest : (n : ℕ) → Sized n top p x₀ → machine (unpacked n p) (unpacked n x) (bits (drop k s)) ≡ machine (unpacked n p) (unpacked n x₀) (bits s)
+  pub fits : x < 2 ^ n
+  pub rest : machine (unpacked n p) (unpacked n x) (bits (drop k s)) ≡ machine (unpacked n p) (unpacked n x₀) (bits s)
 
-pub running_none : (s : List ℕ) (top p x : ℕ) → Running s top p x x 0
-running_none s top p x = record { low = omega arith; fits = λ n z. z.value; rest = λ n z. refl }
+pub running_none : (n p x : ℕ) (s : List ℕ) → x < 2 ^ n → Running n p x s x 0
+running_none n p x s h = record { low = omega arith; fits = h; rest = refl }
 
-module _ {s : List ℕ} {top p x₀ x k : ℕ} (i : Running s top p x₀ x k) where
-  sized : (n : ℕ) → Sized n top p x₀ → Sized n top p x
-  sized n z = record { width = z.width; divisor = z.divisor; value = i.fits n z }
+module _ {n p x₀ : ℕ} {s : List ℕ} {x k : ℕ} (i : Running n p x₀ s x k) where
+  next : List Bool
+  next = stepped (unpacked n p) (unpacked n x) (bit (get_or s k 0))
 
-  pub running_more : (y : ℕ) → k < length s
-      → ((n : ℕ) → Sized n top p x → y ≡ packed (stepped (unpacked n p) (unpacked n x) (bit (get_or s k 0)))) → Running s top p x₀ y (k + 1)
-  unfolding machine
+  next_width : length next ≡ n
+  unfolding next
+  next_width = stepped-length (unpacked n p) (unpacked n x) (bit (get_or s k 0)) ∙ unpacked-length n x
+
+  pub running_more : (y : ℕ) → k < length s → y ≡ packed (stepped (unpacked n p) (unpacked n x) (bit (get_or s k 0))) → Running n p x₀ s y (k + 1)
+  unfolding machine next
   running_more y h e =
       record {
         low = omega arith;
-        fits = λ n z. subst (λ (r : ℕ). r < 2 ^ n) (sym (e n (sized n z))) (below_width n (next n) (next_width n));
+        fits = subst (λ (r : ℕ). r < 2 ^ n) (sym e) (below_width n next next_width);
         rest =
-            λ n z. ap₂ (λ (r : List Bool) (j : ℕ). machine (unpacked n p) r (bits (drop j s)))
-            (ap (unpacked n) (e n (sized n z)) ∙ same_bits_lem n (next n) (next_width n)) (add-one k)
-            ∙ ap (λ (l : List ℕ). machine (unpacked n p) (unpacked n x) (bits l)) (sym (drop-cons s k 0 h)) ∙ i.rest n z;
+            ap₂ (λ (r : List Bool) (j : ℕ). machine (unpacked n p) r (bits (drop j s)))
+            (ap (unpacked n) e ∙ bits_again n next next_width) (add-one k)
+            ∙ ap (λ (l : List ℕ). machine (unpacked n p) (unpacked n x) (bits l)) (sym (drop-cons s k 0 h)) ∙ i.rest;
       }
-    where
-      next : ℕ → List Bool
-      next n = stepped (unpacked n p) (unpacked n x) (bit (get_or s k 0))
 
-      next_width : (n : ℕ) → length (next n) ≡ n
-      next_width n = stepped-length (unpacked n p) (unpacked n x) (bit (get_or s k 0)) ∙ unpacked-length n x
-
-  pub running_done : length s ≤ k → (n : ℕ) → Sized n top p x₀ → x ≡ register_after n p x₀ (bits s)
+  pub running_done : length s ≤ k → x ≡ register_after n p x₀ (bits s)
   unfolding machine
-  running_done h n z =
-      sym (packed-unpacked_below n x (i.fits n z))
+  running_done h =
+      sym (packed-unpacked_below n x i.fits)
       ∙ ap (λ (l : List ℕ). packed (machine (unpacked n p) (unpacked n x) (bits l))) (sym (drop_of_length-le s h))
-      ∙ ap packed (i.rest n z) ∙ sym (after-machine n p x₀ (bits s))
-
--- ---- a run from zero, of what `run` ensures
--- bits u into a register that holds x leave y, at every width that fits
-abbrev pub Remains : ℕ → ℕ → ℕ → List Bool → ℕ → Type 0
-Remains top p x u y = (n : ℕ) → Sized n top p x → y ≡ register_after n p x u
-
-pub run_once : (n : ℕ) {top p : ℕ} → 2 ^ n ≡ top * 2 → p < 2 ^ n → (u : List Bool) {x : ℕ} → Remains top p 0 u x → x ≡ packed (check_bits (unpacked n p) u)
-run_once n {p = p} w d u e = e n (record { width = w; divisor = d; value = pow_pos n }) ∙ after_zero n p u
+      ∙ ap packed i.rest ∙ sym (after-machine n p x₀ (bits s))

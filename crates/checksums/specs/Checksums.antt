@@ -1,11 +1,9 @@
 -- Cyclic checksums: remainders of the division of polynomials over bits. A polynomial is its coefficients, the highest first.
-use Rattle.std.specs.Prelude.{Bool, true, false, cond, List, [], ◌∷◌, ◌++◌, ℕ, zero, suc, ◌-◌, eqb, length, take, drop, replicate}
+use Rattle.std.specs.Prelude.{Bool, true, false, cond, List, [], ◌∷◌, ◌++◌, ℕ, zero, suc, ◌-◌, eqb, length, take, drop, replicate, Result, Ok, Err}
 use Rattle.bits.specs.Bits.{bits, all_binary, ◌⊕◌}
 use Rattle.bits.specs.Numbers.{packed, unpacked}
-use Rattle.bits.specs.Refusals.{Answer, accepted, refused}
+use Rattle.bits.specs.declared.Refusal.{Refusal}
 use Rattle.bits.specs.declared.Refusal.TheVariants.{Symbol}
-use Rattle.checksums.specs.declared.Checked.{Checked}
-use Rattle.checksums.specs.declared.Checked.TheVariants.{Value, Refused}
 
 -- g added to the highest coefficients of l
 unfoldable pub added : List Bool → List Bool → List Bool
@@ -55,11 +53,6 @@ carries n w checksum = eqb (packed (take 16 (drop n w))) checksum
 unfoldable pub checksum7_of : List Bool → ℕ
 checksum7_of information = packed (check_bits speech information)
 
--- ---- answers
-abbrev pub answer_of : Checked → Answer ℕ
-answer_of (Value x) = accepted x
-answer_of (Refused r) = refused r
-
--- a value of bits; Symbol where a byte is none
-abbrev pub answer_for_bits : List ℕ → ℕ → Answer ℕ
-answer_for_bits l x = cond (all_binary l) (accepted x) (refused Symbol)
+-- ---- answers: a value of bits; Symbol where a byte is none
+abbrev pub answer_for_bits : List ℕ → ℕ → Result ℕ Refusal
+answer_for_bits l x = cond (all_binary l) (Ok x) (Err Symbol)

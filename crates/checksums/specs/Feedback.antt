@@ -1,5 +1,5 @@
 -- The shift register that divides as the bits come in. A register of n bits is a number; its highest bit is divided first.
-use Rattle.std.specs.Prelude.{◌≡◌, Bool, false, cond, List, [], ◌∷◌, ◌++◌, ℕ, ◌*◌, ◌^◌, ◌<◌}
+use Rattle.std.specs.Prelude.{Bool, false, cond, List, [], ◌∷◌, ◌++◌, ℕ}
 use Rattle.bits.specs.Bits.{◌⊕◌}
 use Rattle.bits.specs.Numbers.{packed, unpacked}
 use Rattle.checksums.specs.Checksums.{added, remainder_from}
@@ -12,12 +12,6 @@ stepped g (h ∷ t) b = cond (h ⊕ b) (added g (t ++ (false ∷ []))) (t ++ (fa
 unfoldable pub machine : List Bool → List Bool → List Bool → List Bool
 machine g r [] = r
 machine g r (b ∷ u) = machine g (stepped g r b) u
-
--- a register and a divisor of n bits, the highest of the weight top
-pub record Sized (n top polynomial register : ℕ) : Type 0 where
-  pub width : 2 ^ n ≡ top * 2
-  pub divisor : polynomial < 2 ^ n
-  pub value : register < 2 ^ n
 
 -- the register of n bits after the bits u
 unfoldable pub register_after : ℕ → ℕ → ℕ → List Bool → ℕ

@@ -2,19 +2,14 @@
 // Ported from 136-bts, dcch.rs and acelp_cc1.rs, and changed (see NOTICE).
 #![tactic(auto)]
 
-ghost use Rattle.std.specs.Prelude.{◌≡◌, true, [], ◌∷◌, ℕ, ◌+◌, ◌<◌, ◌≤◌, length};
+ghost use Rattle.std.specs.Prelude.{◌≡◌, true, ◌+◌, ◌^◌, ◌<◌, ◌≤◌, length};
 ghost use Rattle.bits.specs.Bits.{all_binary, bit, bits};
 ghost use Rattle.bits.specs.Numbers.{packed, unpacked};
-ghost use Rattle.checksums.specs.Checksums.{answer_for_bits, answer_of, checksum7_of, checksum_from, checksum_of, carries};
-ghost use Rattle.checksums.specs.Feedback.{Sized, register_after, stepped};
+ghost use Rattle.checksums.specs.Checksums.{answer_for_bits, checksum7_of, checksum_from, checksum_of, carries};
+ghost use Rattle.checksums.specs.Feedback.{register_after, stepped};
 
-use bits::{Refusal, all_binary, pack};
-
-// The weight of the highest bit of a register of 16 bits.
-const TOP: u16 = 32768;
-
-// The weight of the highest bit of a register of seven.
-const TOP7: u16 = 64;
+use bits::arguments::binary;
+use bits::{Refusal, pack};
 
 // x^16 + x^12 + x^5 + 1, the coefficients below the highest.
 const CCITT: u16 = 0x1021;
@@ -22,34 +17,28 @@ const CCITT: u16 = 0x1021;
 // x^7 + x^5 + x^4 + x^2 + x + 1, the coefficients below the highest.
 const SPEECH: u16 = 0x37;
 
-#[derive(Clone, Copy)]
-pub enum Checked {
-    Value(u16),
-    Refused(Refusal),
-}
-
-// One bit into a register whose highest bit has the weight `top`. The feedback is the bit that falls out against the one that comes in.
-fn shifted_in(register: u16, input: u8, top: u16, polynomial: u16) -> u16
-    requires { (0 < top) × (top ≤ 32768) × (input < 2) }
-    ensures { (n : ℕ) → Sized n top polynomial register → result ≡ packed (stepped (unpacked n polynomial) (unpacked n register) (bit input)) }
+// One bit into a register of N bits. The feedback is the bit that falls out against the one that comes in.
+fn shifted_in<const N: u32>(register: u16, input: u8, polynomial: u16) -> u16
+    requires { (0 < N) × (N ≤ 16) × (register < 2 ^ N) × (polynomial < 2 ^ N) × (input < 2) }
+    ensures { result ≡ packed (stepped (unpacked N polynomial) (unpacked N register) (bit input)) }
 {
+    let top = 1u16 << (N - 1);
     let shifted = register % top * 2;
-    let incoming = input as u16;
-    if register / top == incoming {
+    if register / top == u16::from(input) {
         shifted
     } else {
         shifted ^ polynomial
     }
 }
 
-// Bits into a register, one after the other: the remainder of a division that the register's value starts.
-fn run(register: u16, s: &[u8], top: u16, polynomial: u16) -> u16
-    requires { (0 < top) × (top ≤ 32768) × (all_binary s.now ≡ true) }
-    ensures { (n : ℕ) → Sized n top polynomial register → result ≡ register_after n polynomial register (bits s.now) }
+// Bits into a register of N bits, one after the other: the remainder of a division that the register's value starts.
+fn run<const N: u32>(register: u16, s: &[u8], polynomial: u16) -> u16
+    requires { (0 < N) × (N ≤ 16) × (register < 2 ^ N) × (polynomial < 2 ^ N) × (all_binary s.now ≡ true) }
+    ensures { result ≡ register_after N polynomial register (bits s.now) }
 {
     let mut x = register;
-    for i in 0..s.len() {
-        x = shifted_in(x, s[i], top, polynomial);
+    for b in s {
+        x = shifted_in::<N>(x, *b, polynomial);
     }
     x
 }
@@ -64,43 +53,25 @@ fn four_in(register: u16, four: u16) -> u16
     (register % 4096 * 16) ^ (quotient * CCITT)
 }
 
-// The number that four bits write, the first highest.
-fn four_of(a: u8, b: u8, c: u8, d: u8) -> u16
-    requires { (a < 2) × (b < 2) × (c < 2) × (d < 2) }
-    ensures { (result < 16) × (unpacked 4 result ≡ bit a ∷ bit b ∷ bit c ∷ bit d ∷ []) }
-{
-    (a * 8 + b * 4 + c * 2 + d) as u16
-}
-
 // The register of the 16-bit checksum after some bits, from a given one: by fours, and those that are left one after the other.
 pub fn checksum_from_bits(register: u16, information: &[u8]) -> u16
     requires { all_binary information.now ≡ true }
     ensures { result ≡ checksum_from register (bits information.now) }
 {
+    let (fours, rest) = information.as_chunks::<4>();
     let mut last = register;
-    let mut i = 0;
-    while 4 <= information.len() - i {
-        let four = four_of(
-            information[i],
-            information[i + 1],
-            information[i + 2],
-            information[i + 3],
-        );
-        last = four_in(last, four);
-        i += 4;
+    for four in fours {
+        last = four_in(last, pack(four) as u16);
     }
-    run(last, &information[i..], TOP, CCITT)
+    run::<16>(last, rest, CCITT)
 }
 
 // The same of bytes of any content; Symbol where one is no bit.
-pub fn checksum_from(register: u16, information: &[u8]) -> Checked
-    ensures { answer_of result ≡ answer_for_bits information.now (checksum_from register (bits information.now)) }
+pub fn checksum_from(register: u16, information: &[u8]) -> Result<u16, Refusal>
+    ensures { result ≡ answer_for_bits information.now (checksum_from register (bits information.now)) }
 {
-    if !all_binary(information) {
-        return Checked::Refused(Refusal::Symbol);
-    }
-    let value = checksum_from_bits(register, information);
-    Checked::Value(value)
+    binary(information)?;
+    Ok(checksum_from_bits(register, information))
 }
 
 // The checksum of information under a colour code, whose eight bits go first.
@@ -108,7 +79,7 @@ pub fn checksum_under(information: &[u8], dvcc: u8) -> u16
     requires { all_binary information.now ≡ true }
     ensures { result ≡ checksum_of (bits information.now) dvcc }
 {
-    let colour = dvcc as u16;
+    let colour = u16::from(dvcc);
     let half = four_in(0, colour / 16);
     let start = four_in(half, colour % 16);
     checksum_from_bits(start, information)
@@ -119,8 +90,7 @@ pub fn carries(n: usize, word: &[u8], checksum: u16) -> bool
     requires { (n + 16 ≤ length word.now) × (all_binary word.now ≡ true) }
     ensures { result ≡ carries n (bits word.now) checksum }
 {
-    let received = pack(&word[n..n + 16]);
-    received == checksum as u64
+    pack(&word[n..n + 16]) == u64::from(checksum)
 }
 
 // The checksum of a speech frame's information.
@@ -128,16 +98,13 @@ pub fn checksum7_of_bits(information: &[u8]) -> u16
     requires { all_binary information.now ≡ true }
     ensures { result ≡ checksum7_of (bits information.now) }
 {
-    run(0, information, TOP7, SPEECH)
+    run::<7>(0, information, SPEECH)
 }
 
 // The same of bytes of any content; Symbol where one is no bit.
-pub fn checksum7(information: &[u8]) -> Checked
-    ensures { answer_of result ≡ answer_for_bits information.now (checksum7_of (bits information.now)) }
+pub fn checksum7(information: &[u8]) -> Result<u16, Refusal>
+    ensures { result ≡ answer_for_bits information.now (checksum7_of (bits information.now)) }
 {
-    if !all_binary(information) {
-        return Checked::Refused(Refusal::Symbol);
-    }
-    let remainder = checksum7_of_bits(information);
-    Checked::Value(remainder)
+    binary(information)?;
+    Ok(checksum7_of_bits(information))
 }

@@ -20,7 +20,7 @@ pub fn complete(header: usize, message: u64, dvcc: u8, word: &mut [u8])
     let end = header + 48;
     unpack(message, &mut word[header..end]);
     let checksum = checksum_under(&word[..end], dvcc);
-    unpack(checksum as u64, &mut word[end..end + 16]);
+    unpack(u64::from(checksum), &mut word[end..end + 16]);
 }
 
 // The message after a header of so many bits.

@@ -5,5 +5,5 @@ use Rattle.bits.specs.Bits.{all_below}
 use Rattle.bits.proofs.Passing.{Testing}
 use Rattle.bits.proofs.all_below.Given as goal
 
-abbrev pub invariant-loop-i : goal.invariant-loop-i
-invariant-loop-i l = (l.i-end ≡ length l.s) × Testing (all_below l.limit) l.s l.passed l.i
+abbrev pub invariant-loop-x : goal.invariant-loop-x
+invariant-loop-x l = Testing (all_below l.limit) l.s l.passed l.x-index

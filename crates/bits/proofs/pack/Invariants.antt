@@ -4,5 +4,5 @@ use lib.ListN.{length}
 use Rattle.bits.proofs.Packed.{Packing}
 use Rattle.bits.proofs.pack.Given as goal
 
-abbrev pub invariant-loop-i : goal.invariant-loop-i
-invariant-loop-i l = (l.i-end ≡ length l.s) × Packing l.s l.value l.i
+abbrev pub invariant-loop-b : goal.invariant-loop-b
+invariant-loop-b l = Packing l.s l.value l.b-index

@@ -1,20 +1,19 @@
 -- `checksums::run` meets its contract: the bits left, into the register, end where all of them end. Assumes nothing.
-use mathlib.Core.Path.{refl}
 use native.Mathlib.Omega.{arith}
 use Rattle.bits.proofs.Binary.{binary_at}
 use Rattle.checksums.proofs.Shifting.{running_none, running_more, running_done}
 use Rattle.checksums.proofs.run.Goals as goal
 
-pub loop-i-init : goal.loop-i-init
-loop-i-init c = (refl, running_none _ _ _ _)
+pub loop-b-init : goal.loop-b-init
+loop-b-init g c = running_none g.row.N c.args.polynomial c.args.register c.args.s.now c.requires.2
 
 pub shifted_in-x-requires : goal.shifted_in-x-requires
-shifted_in-x-requires c =
+shifted_in-x-requires g c =
     let pre = c.requires in
-    (pre.0, pre.1, binary_at _ pre.2 _ (omega arith))
+    (pre.0, pre.1, c.loop-b.invariant.fits, pre.3, binary_at _ pre.4 _ (omega arith))
 
-pub loop-i-preserved : goal.loop-i-preserved
-loop-i-preserved c = (refl, running_more c.loop-i.invariant.1 _ (omega arith) c.shifted_in-x.ensures)
+pub loop-b-preserved : goal.loop-b-preserved
+loop-b-preserved g c = running_more c.loop-b.invariant _ (omega arith) c.shifted_in-x.ensures
 
 pub returns : goal.returns
-returns c = running_done c.loop-i.invariant.1 (omega arith)
+returns g c = running_done c.loop-b.invariant (omega arith)

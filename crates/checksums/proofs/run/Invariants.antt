@@ -1,8 +1,6 @@
 -- `checksums::run` meets its contract: the bits left, into the register, end where all of them end. Assumes nothing.
-use mathlib.Core.Path.{◌≡◌}
-use lib.ListN.{length}
 use Rattle.checksums.proofs.Shifting.{Running}
 use Rattle.checksums.proofs.run.Given as goal
 
-abbrev pub invariant-loop-i : goal.invariant-loop-i
-invariant-loop-i l = (l.i-end ≡ length l.s) × Running l.s l.top l.polynomial l.register l.x l.i
+abbrev pub invariant-loop-b : goal.invariant-loop-b
+invariant-loop-b g l = Running g.row.N l.polynomial l.register l.s l.x l.b-index

@@ -1,14 +1,16 @@
 -- `checksums::shifted_in` meets its contract: the two cases of the feedback. Assumes nothing.
-use native.Mathlib.Omega.{arith}
-use native.Mathlib.Nat.{mod-lt}
-use Rattle.checksums.proofs.Shifting.{shifted_same, shifted_other}
+use mathlib.Core.Path.{◌∙◌, sym}
+use Rattle.checksums.proofs.Shifting.{shifted_same, shifted_other, top_of, top_width}
 use Rattle.checksums.proofs.shifted_in.Goals as goal
 
-pub overflow_mul-shifted : goal.overflow_mul-shifted
-overflow_mul-shifted c = omega (arith, mod-lt c.args.register c.requires.0)
-
 pub returns-then-register-top : goal.returns-then-register-top
-returns-then-register-top c = λ n z. shifted_same n z c.if-register-top.true
+returns-then-register-top g c =
+    let pre = c.requires in
+    let a = c.args in
+    shifted_same (top_of g.row.N) a.polynomial a.register a.input g.row.N pre.0 (top_width g.row.N pre.0 pre.1) (c.if-register-top.true ∙ c.from.ensures)
 
 pub returns-else-register-top : goal.returns-else-register-top
-returns-else-register-top c = λ n z. shifted_other n z c.requires.2 c.if-register-top.false
+returns-else-register-top g c =
+    let pre = c.requires in
+    let a = c.args in
+    shifted_other (top_of g.row.N) a.polynomial a.register a.input g.row.N pre.0 (top_width g.row.N pre.0 pre.1) pre.3 pre.2 pre.4 (λ e. c.if-register-top.false (e ∙ sym c.from.ensures))

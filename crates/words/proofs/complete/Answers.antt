@@ -1,4 +1,5 @@
 -- `words::complete` meets its contract: the message, and the checksum of header and message. Assumes nothing.
+use mathlib.Core.Path.{◌∙◌}
 use Rattle.words.proofs.Writing.{front_length, front_binary, completed}
 use Rattle.words.proofs.complete.Goals as goal
 
@@ -12,4 +13,4 @@ checksum_under-checksum-requires c =
 
 pub returns : goal.returns
 returns c =
-    completed c.args.word.now c.args.header c.args.message c.requires.0 c.requires.1 _ c.unpack.ensures _ c.checksum_under-checksum.ensures c.unpack-2.ensures
+    completed c.args.word.now c.args.header c.args.message c.requires.0 c.requires.1 _ c.unpack.ensures _ (c.from.ensures ∙ c.checksum_under-checksum.ensures) c.unpack-2.ensures

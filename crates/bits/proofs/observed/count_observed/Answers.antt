@@ -1,14 +1,11 @@
--- `bits::observed::count_observed` meets its contract: so many of the bytes passed are observed. Assumes nothing.
-use native.Mathlib.Omega.{arith}
-use mathlib.Core.Path.{refl}
-use Rattle.bits.proofs.Erased.{observing_none, observing_more, observing_done}
+-- `bits::observed::count_observed` meets its contract: the chain counts as the definition does. Assumes nothing.
+use mathlib.Core.Path.{◌≡◌, sym, ◌∙◌}
+use mathlib.Core.Bool.{not}
+use lib.Dec.{eqb}
+use Rattle.std.proofs.Common.{rules}
+use Rattle.std.specs.Prelude.{count_by}
+use Rattle.bits.proofs.Erased.{observed_counted}
 use Rattle.bits.proofs.observed.count_observed.Goals as goal
 
-pub loop-i-init : goal.loop-i-init
-loop-i-init c = (refl, observing_none _)
-
-pub loop-i-preserved : goal.loop-i-preserved
-loop-i-preserved c = (refl, observing_more c.loop-i.invariant.1 _ (omega arith) (omega arith) c.observed_one-n.ensures.0)
-
 pub returns : goal.returns
-returns c = observing_done c.loop-i.invariant.1 (omega arith)
+returns c = let counted : c.count.result ≡ count_by (λ x. not (eqb x 2)) c.args.s.now = search rules in counted ∙ sym (observed_counted c.args.s.now)
