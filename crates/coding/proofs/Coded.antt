@@ -1,18 +1,17 @@
 -- The coded bits of a run of inputs: their number, runs one after the other, and that only the newest five inputs before a run matter,
 -- so that steps of a register make a run. Assumes nothing.
 use mathlib.Core.Path.{◌≡◌, refl, sym, ap, ap₂, ◌∙◌}
-use mathlib.Core.Bool.{Bool, true, ◌&&◌}
+use mathlib.Core.Bool.{Bool, ◌&&◌}
 use mathlib.Core.List.{List, [], ◌∷◌, ◌++◌, append_assoc, append-nil, reverse, reverse_aux, reverse_aux-eq, reverse-append}
 use Prim.Native.Nat.{ℕ, zero, suc, ◌+◌, ◌*◌, ◌<◌, ◌≤◌}
 use native.Mathlib.Omega.{arith}
 use native.Mathlib.Nat.{suc-mul, add_comm}
-use lib.Dec.{T, leb, leb→le}
 use lib.ListN.{length, take, length-append, length-map}
 use lib.Seq.{take-take}
 use Rattle.bits.specs.Bits.{bytes, ◌⊕◌}
 use Rattle.bits.proofs.Binary.{bytes-append}
-use Rattle.bits.proofs.Tested.{both, both_left, both_right}
 use Rattle.coding.specs.Codes.{tapped, outputs, coded}
+use Rattle.coding.specs.Laws.{AtMostSix}
 use Rattle.coding.specs.Registers.{Stepped}
 use Rattle.coding.specs.Runs.{Ran}
 
@@ -36,11 +35,6 @@ pub coded-append : (code : List (List Bool)) (before u v : List Bool) → coded 
 coded-append code before u v = coded_onto code before u v ∙ ap (λ (w : List Bool). coded code before u ++ coded code w v) (reverse_aux-eq u before)
 
 -- ---- the newest inputs
--- every generator has a constraint length of at most six
-abbrev pub short : List (List Bool) → Bool
-short [] = true
-short (g ∷ code) = both (leb (length g) 6) (short code)
-
 -- a generator of n coefficients taps no more than the newest n inputs
 tapped_newest : (g w w' : List Bool) (n : ℕ) → length g ≤ n → take n w ≡ take n w' → tapped g w ≡ tapped g w'
 unfolding tapped
@@ -54,12 +48,9 @@ tapped_newest (a ∷ g) (x ∷ w) (y ∷ w') (suc n) h e =
     let q : take n w ≡ take n w' = cc in
     ap₂ (λ (b c : Bool). (a && b) ⊕ c) p (tapped_newest g w w' n (omega arith) q)
 
-outputs_newest : (code : List (List Bool)) → T (short code) → (w w' : List Bool) → take 6 w ≡ take 6 w' → outputs code w ≡ outputs code w'
+outputs_newest : (code : List (List Bool)) → AtMostSix code → (w w' : List Bool) → take 6 w ≡ take 6 w' → outputs code w ≡ outputs code w'
 outputs_newest [] t w w' e = refl
-outputs_newest (g ∷ code) t w w' e =
-    ap₂ (λ (b : Bool) (l : List Bool). b ∷ l)
-    (tapped_newest g w w' 6 (leb→le (length g) 6 (both_left (leb (length g) 6) (short code) t)) e)
-    (outputs_newest code (both_right (leb (length g) 6) (short code) t) w w' e)
+outputs_newest (g ∷ code) t w w' e = ap₂ (λ (b : Bool) (l : List Bool). b ∷ l) (tapped_newest g w w' 6 t.0 e) (outputs_newest code t.1 w w' e)
 
 -- what agrees in its newest n agrees in them after the same inputs r
 take_onto : {A : Type 0} (r a b : List A) (n : ℕ) → take n a ≡ take n b → take n (r ++ a) ≡ take n (r ++ b)
@@ -69,7 +60,7 @@ take_onto {A} (x ∷ r) a b (suc n) e =
     ap (λ (l : List A). x ∷ l)
     (take_onto r a b n (sym (take-take n (suc n) a (omega arith)) ∙ ap (take n) e ∙ take-take n (suc n) b (omega arith)))
 
-pub coded_newest : (code : List (List Bool)) → T (short code) → (w w' u : List Bool) → take 5 w ≡ take 5 w' → coded code w u ≡ coded code w' u
+pub coded_newest : (code : List (List Bool)) → AtMostSix code → (w w' u : List Bool) → take 5 w ≡ take 5 w' → coded code w u ≡ coded code w' u
 unfolding coded
 coded_newest code t w w' [] e = refl
 coded_newest code t w w' (x ∷ u) e =
@@ -89,7 +80,7 @@ module _ {code : List (List Bool)} {memory : ℕ → List Bool} where
       record { bits = step.sent ∙ ap bytes (sym (append-nil (outputs code (x ∷ memory s)))); below = step.below; holds = step.holds }
 
   -- a run goes on from the state that another ended in
-  pub ran_append : T (short code) → {s n m : ℕ} {u v : List Bool} {out o : List ℕ} → Ran code memory s u n out → Ran code memory n v m o
+  pub ran_append : AtMostSix code → {s n m : ℕ} {u v : List Bool} {out o : List ℕ} → Ran code memory s u n out → Ran code memory n v m o
       → Ran code memory s (u ++ v) m (out ++ o)
   ran_append t {s} {n} {u} {v} run next =
       let w : List Bool = reverse u ++ memory s in
@@ -104,6 +95,6 @@ module _ {code : List (List Bool)} {memory : ℕ → List Bool} where
             ∙ ap (take 5) (sym (append_assoc (reverse v) (reverse u) (memory s)) ∙ ap (λ (r : List Bool). r ++ memory s) (sym (reverse-append u v)));
       }
 
-  pub ran_more : T (short code) → {s n m : ℕ} {u : List Bool} {x : Bool} {out o : List ℕ} → Ran code memory s u n out → Stepped code memory n x m o
+  pub ran_more : AtMostSix code → {s n m : ℕ} {u : List Bool} {x : Bool} {out o : List ℕ} → Ran code memory s u n out → Stepped code memory n x m o
       → Ran code memory s (u ++ (x ∷ [])) m (out ++ o)
   ran_more t run step = ran_append t run (ran_step step)

@@ -1,70 +1,110 @@
--- One step of a register against its code, by one computed test over the 32 states and both inputs: the parities of the tapped register are the
--- code's outputs, and the next state holds the newest five inputs. Assumes nothing.
+-- One step of a register against its code: each law of the 32 states, both inputs and the 64 generators of six digits is one computed test, and the
+-- register's six bits meet no other digit of a generator. Assumes nothing.
 use mathlib.Core.Path.{◌≡◌, refl, sym, ap, ap₂, subst, ◌∙◌}
 use mathlib.Core.Bool.{Bool, true, false}
 use mathlib.Core.List.{List, [], ◌∷◌, map}
-use Prim.Native.Nat.{ℕ, ◌*◌, ◌/◌, ◌%◌, ◌<◌}
+use Prim.Native.Nat.{ℕ, ◌+◌, ◌*◌, ◌/◌, ◌%◌, ◌^◌, ◌<◌, min}
+use native.Mathlib.Omega.{arith}
+use native.Mathlib.Decide.{dec_lt}
 use lib.Bits.{bit_and, bit_or}
 use lib.Count.{ones}
 use lib.Dec.{T, ltb, ltb→lt}
 use lib.ListN.{take}
+use Rattle.std.specs.Int.{bit_at}
+use Rattle.std.proofs.lemmas.Nat.Bits.{bit_at_and, bit_at_above, bit_at_cat_low, same_from_bits}
 use Rattle.bits.specs.Bits.{bit, byte, bytes}
 use Rattle.bits.proofs.Binary.{byte-bit, byte-bit_any}
-use Rattle.bits.proofs.Tested.{both, both_left, both_right, every, below_bit, same_bits, same_bits_eq}
-use Rattle.coding.specs.Codes.{tapped, outputs, dcch, facch, acelp}
+use Rattle.bits.proofs.Tested.{both, both_left, both_right, every, below, below_bit, same_bit, same_bit_eq, same_bits, same_bits_eq}
+use Rattle.coding.specs.Codes.{tapped, outputs, from_highest, from_lowest}
 use Rattle.coding.specs.Registers.{memory_high, memory_low, Stepped}
 
--- the parities of a register under the taps
+-- ---- six digits
+-- a number of six bits meets the lowest six of another
+and_six : (r g : ℕ) → r < 64 → bit_and r g ≡ bit_and r (g % 64)
+and_six r g h = same_from_bits _ _ (λ i. bit_at_and r g i ∙ go i (dec_lt i 6) ∙ sym (bit_at_and r (g % 64) i))
+  where
+    go : (i : ℕ) → Dec (i < 6) → min (bit_at r i) (bit_at g i) ≡ min (bit_at r i) (bit_at (g % 64) i)
+    go i (yes b) =
+        let e : g ≡ g / 64 * 2 ^ 6 + g % 64 = omega arith in
+        ap (min (bit_at r i)) (ap (λ (n : ℕ). bit_at n i) e ∙ bit_at_cat_low (g / 64) 6 (g % 64) i b)
+    go i (no b) =
+        let z : bit_at r i ≡ 0 = bit_at_above r 6 i h (omega arith) in
+        omega arith
+
+highest_six : (g : ℕ) → from_highest (g % 64) ≡ from_highest g
+highest_six g =
+    let a : g % 64 / 32 % 2 ≡ g / 32 % 2 = omega arith in
+    let b : g % 64 / 16 % 2 ≡ g / 16 % 2 = omega arith in
+    let c : g % 64 / 8 % 2 ≡ g / 8 % 2 = omega arith in
+    let d : g % 64 / 4 % 2 ≡ g / 4 % 2 = omega arith in
+    let e : g % 64 / 2 % 2 ≡ g / 2 % 2 = omega arith in
+    let f : g % 64 % 2 ≡ g % 2 = omega arith in
+    rw (a, b, c, d, e, f)
+
+lowest_six : (g : ℕ) → from_lowest (g % 64) ≡ from_lowest g
+lowest_six g =
+    let a : g % 64 / 32 % 2 ≡ g / 32 % 2 = omega arith in
+    let b : g % 64 / 16 % 2 ≡ g / 16 % 2 = omega arith in
+    let c : g % 64 / 8 % 2 ≡ g / 8 % 2 = omega arith in
+    let d : g % 64 / 4 % 2 ≡ g / 4 % 2 = omega arith in
+    let e : g % 64 / 2 % 2 ≡ g / 2 % 2 = omega arith in
+    let f : g % 64 % 2 ≡ g % 2 = omega arith in
+    rw (a, b, c, d, e, f)
+
+-- ---- a register: what a number says as a generator, what a state holds, the register that a state and an input make, and the state after it
 abbrev pub parities : List ℕ → ℕ → List ℕ
 parities taps register = map (λ (t : ℕ). ones (bit_and register t) % 2) taps
 
-abbrev odd : List ℕ → ℕ → List Bool
-odd taps register = map (λ (t : ℕ). bit (ones (bit_and register t))) taps
+module _ (from : ℕ → List Bool) (memory : ℕ → List Bool) (register : ℕ → ℕ → ℕ) (next : ℕ → ℕ) where
+  abbrev sends : Bool → ℕ → ℕ → Bool
+  sends b s g = same_bit (bit (ones (bit_and (register s (byte b)) g))) (tapped (from g) (b ∷ memory s))
 
-parities_odd : (taps : List ℕ) (register : ℕ) → parities taps register ≡ bytes (odd taps register)
-parities_odd [] register = refl
-parities_odd (t ∷ taps) register = ap₂ (λ (x : ℕ) (l : List ℕ). x ∷ l) (sym (byte-bit_any (ones (bit_and register t)))) (parities_odd taps register)
+  abbrev fits : Bool → ℕ → Bool
+  fits b s = both (ltb (register s (byte b)) 64) (ltb (next (register s (byte b))) 32)
 
--- the register that a state and an input make, and the state after it
-module _ (code : List (List Bool)) (memory : ℕ → List Bool) (register : ℕ → ℕ → ℕ) (next : ℕ → ℕ) (taps : List ℕ) where
   abbrev keeps : Bool → ℕ → Bool
-  keeps b s = both (ltb (next (register s (byte b))) 32) (same_bits (memory (next (register s (byte b)))) (take 5 (b ∷ memory s)))
-
-  abbrev sends : Bool → ℕ → Bool
-  sends b s = same_bits (odd taps (register s (byte b))) (outputs code (b ∷ memory s))
+  keeps b s = both (fits b s) (same_bits (memory (next (register s (byte b)))) (take 5 (b ∷ memory s)))
 
   abbrev right : Bool → ℕ → Bool
-  right b s = both (sends b s) (keeps b s)
+  right b s = both (every (sends b s) 64) (keeps b s)
 
-  pub stepped : T (every (right false) 32) → T (every (right true) 32) → {s i : ℕ} {o : List ℕ} → s < 32 → i < 2
-      → o ≡ parities taps (register s i) → Stepped code memory s (bit i) (next (register s i)) o
-  stepped p q {s} {i} {o} hs hi e =
-      let b : Bool = bit i in
-      let t : T (right b s) = below_bit right 32 p q b s hs in
-      let k : T (keeps b s) = both_right (sends b s) (keeps b s) t in
-      let n : ℕ = next (register s (byte b)) in
-      let w : Stepped code memory s b n (parities taps (register s (byte b))) =
-      record {
-        sent =
-            parities_odd taps (register s (byte b))
-            ∙ ap bytes (same_bits_eq (odd taps (register s (byte b))) (outputs code (b ∷ memory s)) (both_left (sends b s) (keeps b s) t));
-        below = ltb→lt n 32 (both_left (ltb n 32) (same_bits (memory n) (take 5 (b ∷ memory s))) k);
-        holds = same_bits_eq _ _ (both_right (ltb n 32) (same_bits (memory n) (take 5 (b ∷ memory s))) k);
-      } in
-      subst (λ (l : List ℕ). Stepped code memory s b (next (register s i)) l) (sym e)
-      (subst (λ (j : ℕ). Stepped code memory s b (next (register s j)) (parities taps (register s j))) (byte-bit i hi) w)
+  module _ (six : (g : ℕ) → from (g % 64) ≡ from g) where
+    parity_tapped : (b : Bool) (s g : ℕ) → T (right b s) → ones (bit_and (register s (byte b)) g) % 2 ≡ byte (tapped (from g) (b ∷ memory s))
+    parity_tapped b s g t =
+        let k : T (fits b s) = both_left (fits b s) _ (both_right (every (sends b s) 64) (keeps b s) t) in
+        let r : register s (byte b) < 64 = ltb→lt _ 64 (both_left (ltb (register s (byte b)) 64) _ k) in
+        let e : bit (ones (bit_and (register s (byte b)) (g % 64))) ≡ tapped (from (g % 64)) (b ∷ memory s) =
+        same_bit_eq _ _ (below (sends b s) 64 (both_left (every (sends b s) 64) (keeps b s) t) (g % 64) (omega arith)) in
+        sym (byte-bit_any (ones (bit_and (register s (byte b)) g)))
+        ∙ ap byte (ap (λ (n : ℕ). bit (ones n)) (and_six _ g r) ∙ e ∙ ap (λ (l : List Bool). tapped l (b ∷ memory s)) (six g))
 
--- IS-136 and IS-54-B: the input comes in above the state
-module _ {s i : ℕ} {o : List ℕ} (hs : s < 32) (hi : i < 2) where
-  pub dcch_step : o ≡ parities (0o65 ∷ 0o57 ∷ []) (bit_or s (i * 32 % 256)) → Stepped dcch memory_high s (bit i) (bit_or s (i * 32 % 256) / 2) o
+    parities_tapped : (b : Bool) (s : ℕ) (gs : List ℕ) → T (right b s) → parities gs (register s (byte b)) ≡ bytes (outputs (map from gs) (b ∷ memory s))
+    parities_tapped b s [] t = refl
+    parities_tapped b s (g ∷ gs) t = ap₂ (λ (x : ℕ) (l : List ℕ). x ∷ l) (parity_tapped b s g t) (parities_tapped b s gs t)
+
+    pub stepped : T (every (right false) 32) → T (every (right true) 32) → (gs : List ℕ) → {s i : ℕ} {o : List ℕ} → s < 32 → i < 2
+        → o ≡ parities gs (register s i) → Stepped (map from gs) memory s (bit i) (next (register s i)) o
+    stepped p q gs {s} {i} {o} hs hi e =
+        let b : Bool = bit i in
+        let t : T (right b s) = below_bit right 32 p q b s hs in
+        let k : T (keeps b s) = both_right (every (sends b s) 64) (keeps b s) t in
+        let n : ℕ = next (register s (byte b)) in
+        let w : Stepped (map from gs) memory s b n (parities gs (register s (byte b))) =
+        record {
+          sent = parities_tapped b s gs t;
+          below = ltb→lt n 32 (both_right (ltb (register s (byte b)) 64) (ltb n 32) (both_left (fits b s) _ k));
+          holds = same_bits_eq _ _ (both_right (fits b s) _ k);
+        } in
+        subst (λ (l : List ℕ). Stepped (map from gs) memory s b (next (register s i)) l) (sym e)
+        (subst (λ (j : ℕ). Stepped (map from gs) memory s b (next (register s j)) (parities gs (register s j))) (byte-bit i hi) w)
+
+module _ (gs : List ℕ) {s i : ℕ} {o : List ℕ} (hs : s < 32) (hi : i < 2) where
+  -- IS-136 and IS-54-B: the input comes in above the state
+  pub high_step : o ≡ parities gs (bit_or s (i * 32 % 256)) → Stepped (map from_highest gs) memory_high s (bit i) (bit_or s (i * 32 % 256) / 2) o
   unfolding tapped ones
-  dcch_step e = stepped dcch memory_high (λ s i. bit_or s (i * 32 % 256)) (λ r. r / 2) (0o65 ∷ 0o57 ∷ []) tt tt hs hi e
-
-  pub facch_step : o ≡ parities (0o67 ∷ 0o71 ∷ 0o75 ∷ 0o53 ∷ []) (bit_or s (i * 32 % 256)) → Stepped facch memory_high s (bit i) (bit_or s (i * 32 % 256) / 2) o
-  unfolding tapped ones
-  facch_step e = stepped facch memory_high (λ s i. bit_or s (i * 32 % 256)) (λ r. r / 2) (0o67 ∷ 0o71 ∷ 0o75 ∷ 0o53 ∷ []) tt tt hs hi e
+  high_step e = stepped from_highest memory_high (λ s i. bit_or s (i * 32 % 256)) (λ r. r / 2) highest_six tt tt gs hs hi e
 
   -- TIA/EIA-136-410: it comes in below
-  pub acelp_step : o ≡ parities (0b101011 ∷ 0b111101 ∷ []) (bit_or (s * 2 % 256) i) → Stepped acelp memory_low s (bit i) (bit_and (bit_or (s * 2 % 256) i) 31) o
+  pub low_step : o ≡ parities gs (bit_or (s * 2 % 256) i) → Stepped (map from_lowest gs) memory_low s (bit i) (bit_and (bit_or (s * 2 % 256) i) 31) o
   unfolding tapped ones
-  acelp_step e = stepped acelp memory_low (λ s i. bit_or (s * 2 % 256) i) (λ r. bit_and r 31) (0b101011 ∷ 0b111101 ∷ []) tt tt hs hi e
+  low_step e = stepped from_lowest memory_low (λ s i. bit_or (s * 2 % 256) i) (λ r. bit_and r 31) lowest_six tt tt gs hs hi e

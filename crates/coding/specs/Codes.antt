@@ -1,6 +1,6 @@
 -- Convolutional codes of constraint length six: an output bit is the sum modulo 2 of the tapped inputs.
-use Rattle.std.specs.Prelude.{Bool, true, false, ◌&&◌, List, [], ◌∷◌, ◌++◌, map}
-use Rattle.bits.specs.Bits.{bits, ◌⊕◌}
+use Rattle.std.specs.Prelude.{Bool, false, ◌&&◌, List, [], ◌∷◌, ◌++◌, map, ℕ, ◌/◌}
+use Rattle.bits.specs.Bits.{bit, bits, ◌⊕◌}
 
 -- The sum modulo 2 of the inputs, newest first, that the coefficients of a generator tap: the coefficient of D^i taps the input of i steps before.
 unfoldable pub tapped : List Bool → List Bool → Bool
@@ -30,3 +30,12 @@ facch =
 -- TIA/EIA-136-410 4.3: binary 101011 and 111101, the free coefficient lowest
 abbrev pub acelp : List (List Bool)
 acelp = bits (1 ∷ 1 ∷ 0 ∷ 1 ∷ 0 ∷ 1 ∷ []) ∷ bits (1 ∷ 0 ∷ 1 ∷ 1 ∷ 1 ∷ 1 ∷ []) ∷ []
+
+-- ---- a generator written as a number of six digits
+-- the coefficient of D^0 highest, as in IS-136 and IS-54-B
+abbrev pub from_highest : ℕ → List Bool
+from_highest g = bit (g / 32) ∷ bit (g / 16) ∷ bit (g / 8) ∷ bit (g / 4) ∷ bit (g / 2) ∷ bit g ∷ []
+
+-- and lowest, as in TIA/EIA-136-410
+abbrev pub from_lowest : ℕ → List Bool
+from_lowest g = bit g ∷ bit (g / 2) ∷ bit (g / 4) ∷ bit (g / 8) ∷ bit (g / 16) ∷ bit (g / 32) ∷ []

@@ -1,4 +1,5 @@
--- Convolutional codes (Codes), their shift registers (Registers) and runs of inputs through them (Runs): the definitions.
+-- Convolutional codes (Codes), their shift registers (Registers), what both keep (Laws), and runs of inputs through them (Runs): the definitions.
 pub mod Codes
 pub mod Registers
+pub mod Laws
 pub mod Runs

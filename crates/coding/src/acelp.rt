@@ -1,29 +1,11 @@
-// The code of ACELP CC1.
+// The lines of ACELP CC1, coded without a register.
 // Ported from 136-bts, acelp_cc1.rs, and changed (see NOTICE).
 ghost use Rattle.std.specs.Prelude.{true, reverse, ◌≡◌, ◌+◌, ◌*◌, ◌<◌, drop, length, take};
-ghost use Rattle.bits.specs.Bits.{all_binary, bit, bits, bytes};
+ghost use Rattle.bits.specs.Bits.{all_binary, bits, bytes};
 ghost use Rattle.coding.specs.Codes.{acelp, coded};
-ghost use Rattle.coding.specs.Registers.{memory_low, Stepped};
 
-use crate::dcch::Step;
-use crate::register::parity;
-
-// TIA/EIA-136-410 4.3, the newest input lowest. DCCH's are the same in this order.
-pub const G0: u8 = 0b101011;
-
-pub const G1: u8 = 0b111101;
-
-// One step: the register is the state with the input below it, and its low five bits are the next state.
-pub fn transition(state: u8, input: u8) -> Step
-    requires { (state < 32) × (input < 2) }
-    ensures { Stepped acelp memory_low state (bit input) result.next result.output }
-{
-    let register = (state << 1) | input;
-    Step {
-        next: register & 31,
-        output: [parity(register, G0), parity(register, G1)],
-    }
-}
+use crate::Code;
+use crate::codes::Acelp;
 
 // The state that five inputs leave, the oldest given first: the newest is lowest.
 fn state_after(a: u8, b: u8, c: u8, d: u8, e: u8) -> u8
@@ -41,7 +23,7 @@ pub fn line_outputs(line: &[u8], first: &mut [u8], second: &mut [u8])
 {
     for i in 0..first.len() {
         let state = state_after(line[i], line[i + 1], line[i + 2], line[i + 3], line[i + 4]);
-        let step = transition(state, line[i + 5]);
+        let step = Acelp::transition(state, line[i + 5]);
         let output = step.output;
         first[i] = output[0];
         second[i] = output[1];

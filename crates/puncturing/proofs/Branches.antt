@@ -1,16 +1,17 @@
 -- The rows and the symbols give the code's costs by place, so that a word's metric is its weight. Assumes nothing.
 use mathlib.Core.Path.{◌≡◌, refl, sym, ap, ap₂, subst, ◌∙◌}
 use mathlib.Core.Bool.{Bool, true, false, cond}
-use mathlib.Core.List.{List, [], ◌∷◌}
+use mathlib.Core.List.{List, [], ◌∷◌, ◌++◌}
 use Prim.Native.Nat.{ℕ, ◌+◌, ◌-◌, ◌*◌, ◌/◌, ◌%◌, ◌<◌, ◌≤◌}
 use native.Mathlib.Omega.{arith}
 use native.Mathlib.Decide.{ℕ_discrete}
-use lib.ListN.{length, get_or, drop, replicate, get_or-replicate, length-map, get_or-map}
+use lib.Seq.{get_or-append_seam}
+use lib.ListN.{get_or-append, length, get_or, drop, replicate, get_or-replicate, length-append, length-map, get_or-map}
 use borrow.Author.Tests.{eqb-false}
 use Rattle.bits.specs.Bits.{bit, bits, all_binary, disagreements, tally}
-use Rattle.bits.proofs.Binary.{binary_at, differ_le}
-use Rattle.bits.proofs.Filled.{Filling}
+use Rattle.bits.proofs.Binary.{binary_at}
 use Rattle.coding.specs.Codes.{acelp}
+use Rattle.coding.specs.Laws.{acelp_laws}
 use Rattle.viterbi.proofs.Branches.{distance_le}
 use Rattle.search.specs.Forward.{Rows, branch_by}
 use Rattle.trellis.specs.Numbering.{newest_low}
@@ -21,7 +22,7 @@ use Rattle.trellis.proofs.PathWord.{leads_terminated, terminated_leads}
 use Rattle.trellis.proofs.Registers.{register_low_lem}
 use Rattle.trellis.proofs.Searching.{found_first_to}
 use Rattle.search.proofs.ByPlace.{RowAt, metric_coded, outputs_at}
-use Rattle.viterbi.specs.Rows.{DistancesTo, distance_at, pair_of}
+use Rattle.viterbi.specs.Rows.{PairsTo, distance_at, pair_of}
 use Rattle.puncturing.specs.Punctured.{weight}
 use Rattle.puncturing.specs.Rows.{StepRows, SymbolsTo}
 use Rattle.puncturing.proofs.Gaps.{Observation, observed, unobserved, cost, sent_mask, sent_kept, spread, tally_spread}
@@ -29,13 +30,15 @@ use Rattle.puncturing.proofs.MaskSteps.{silent, pair_at, mask_rank}
 use Rattle.puncturing.proofs.Received.{observed_at, received}
 
 -- ---- the rows: four copied, and zeros
-pub step_rows : {rows : List (List ℕ)} {k : ℕ} → Filling (λ i row. DistancesTo (bit (i / 2)) (bit (i % 2)) row 64) [] 5 rows k → 4 ≤ k
-    → get_or rows 4 [] ≡ replicate 64 0 → StepRows rows
-step_rows f h z =
+pub step_rows : {pairs : List (List ℕ)} {copied : List (List ℕ)} → (length pairs ≡ 4) × PairsTo pairs 4 → copied ≡ pairs → StepRows (copied ++ (replicate 64 0 ∷ []))
+step_rows {pairs} {copied} p e =
+    let zeros : List ℕ = replicate 64 0 in
+    let four : length copied ≡ 4 = ap length e ∙ p.0 in
+    let last : get_or (copied ++ (zeros ∷ [])) 4 [] ≡ zeros = ap (λ (i : ℕ). get_or (copied ++ (zeros ∷ [])) i []) (sym four) ∙ get_or-append_seam copied zeros [] [] in
     record {
-      five = f.size;
-      pairs = λ i low. f.right i (omega arith);
-      free = λ place low. ap (λ (row : List ℕ). get_or row place 0) z ∙ get_or-replicate 64 place 0 0 low;
+      five = length-append copied (replicate 64 0 ∷ []) ∙ ap (λ (n : ℕ). n + 1) four;
+      pairs = λ i low place h. ap (λ (row : List ℕ). get_or row place 0) (get_or-append copied _ [] i (omega arith) ∙ ap (λ (rows : List (List ℕ)). get_or rows i []) e) ∙ p.1 i low place h;
+      free = λ place low. ap (λ (row : List ℕ). get_or row place 0) last ∙ get_or-replicate 64 place 0 0 low;
     }
 
 -- ---- a place of a row
@@ -86,7 +89,7 @@ module _ (coded symbols : List ℕ) (rows : List (List ℕ)) (enough : length co
   pub metric_weight : (u : List Bool) → length u ≤ 108 → word_metric newest_low (branch_by rows symbols) 0 u ≡ weight (bits coded) u
   unfolding weight
   metric_weight u h =
-      metric_coded acelp cost (spread sent_mask (bits coded)) rows symbols tt 108 row 0 u (omega arith) h
+      metric_coded acelp cost (spread sent_mask (bits coded)) rows symbols acelp_laws.six 108 row 0 u (omega arith) h
       ∙ tally_spread sent_mask _ (bits coded) (omega (arith, mask_rank, length-map coded bit))
       ∙ ap (λ (l : List Bool). disagreements l (bits coded)) (sym (sent_kept _))
 

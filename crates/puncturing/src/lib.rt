@@ -9,8 +9,9 @@ ghost use Rattle.trellis.specs.Words.{Terminated};
 ghost use Rattle.puncturing.specs.Punctured.{weight};
 ghost use Rattle.puncturing.specs.Rows.{StepRows, SymbolsTo, symbol_of};
 
+use search::Received;
 use trellis::Outcome;
-use viterbi::pair_rows;
+use viterbi::{pair, pair_rows};
 
 // The rows of branch metrics: those of the four pairs, and one of zeros for a step that sends nothing.
 fn step_rows() -> [[u16; 64]; 5]
@@ -18,10 +19,7 @@ fn step_rows() -> [[u16; 64]; 5]
 {
     let pairs = pair_rows();
     let mut rows = [[0u16; 64]; 5];
-    for pair in 0..4usize {
-        let row = pairs[pair];
-        rows[pair] = row;
-    }
+    rows[..4].copy_from_slice(&pairs);
     rows
 }
 
@@ -33,19 +31,19 @@ fn symbol(coded: &[u8], step: usize) -> u8
     if step % 27 == 26 {
         return 4;
     }
-    let at = (step - step / 27) * 2;
-    let first = coded[at];
-    let second = coded[at + 1];
-    first * 2 + second
+    pair(coded, step - step / 27)
 }
 
-fn fill_symbols(coded: &[u8], symbols: &mut [u8])
-    requires { (length coded.now ≡ 208) × (all_binary coded.now ≡ true) × (length symbols.old ≡ 108) }
-    ensures { SymbolsTo coded.now symbols.new 108 }
+// What each step receives.
+fn symbols(coded: &[u8]) -> [u8; 108]
+    requires { (length coded.now ≡ 208) × (all_binary coded.now ≡ true) }
+    ensures { (length result ≡ 108) × SymbolsTo coded.now result 108 }
 {
-    for step in 0..108usize {
+    let mut symbols = [0u8; 108];
+    for step in 0..108 {
         symbols[step] = symbol(coded, step);
     }
+    symbols
 }
 
 // Writes the nearest word that ends in five zeros, from state 0: the first such. The metric is its number of disagreements.
@@ -54,7 +52,10 @@ pub fn punctured(coded: &[u8], word: &mut [u8]) -> Outcome
     ensures { FoundFirst (Terminated 108) (weight (bits coded.now)) word.new result }
 {
     let rows = step_rows();
-    let mut symbols = [0u8; 108];
-    fill_symbols(coded, &mut symbols);
-    search::nearest_between(&rows, &symbols, 0, 0, word)
+    let symbols = symbols(coded);
+    let received = Received {
+        rows: &rows,
+        symbols: &symbols,
+    };
+    received.nearest_between(0, 0, word)
 }

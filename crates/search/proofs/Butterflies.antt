@@ -1,10 +1,10 @@
 -- The arrays of `advance`, filled up to a butterfly: the states 2 n and 2 n + 1 for each n below it. Assumes nothing.
-use mathlib.Core.Path.{◌≡◌, refl, sym, ap, ap₂, ◌∙◌, subst}
+use mathlib.Core.Path.{◌≡◌, sym, ap, ap₂, ◌∙◌, subst}
 use mathlib.Core.Bool.{Bool, true, false}
 use mathlib.Core.List.{List}
 use Prim.Native.Nat.{ℕ, ◌+◌, ◌*◌, ◌/◌, ◌%◌, ◌<◌, ◌≤◌}
 use native.Mathlib.Omega.{arith}
-use native.Mathlib.Decide.{ℕ_discrete, dec_lt}
+use native.Mathlib.Decide.{ℕ_discrete}
 use lib.Dec.{eqb, eqb→eq}
 use lib.ListN.{length, get_or, set, length-set}
 use lib.Seq.{get_or-set_same, get_or-set_other}
@@ -14,7 +14,6 @@ use Rattle.trellis.specs.Numbering.{pred_low}
 use Rattle.search.specs.Row.{place_of}
 use Rattle.search.specs.Butterfly.{Advanced, candidate_of, metric_into, byte_into}
 use Rattle.search.specs.Select.{lesser_of, byte_of}
-use Rattle.search.specs.declared.butterfly.Column.{Column}
 
 -- where the row of the step into 2 n and into 2 n + 1 is read: 32 on from the upper predecessor
 abbrev upper : Bool → ℕ → ℕ

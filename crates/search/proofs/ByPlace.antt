@@ -7,18 +7,19 @@ use native.Mathlib.Omega.{arith}
 use native.Mathlib.Nat.{zero-add, min-le_left}
 use lib.Bits.{bit_and, and_step, and_zero_r}
 use lib.Count.{ones, ones_step}
-use lib.Dec.{T, eqb, eqb→eq, leb, leb→le}
-use lib.ListN.{length, get_or, drop}
+use lib.Dec.{eqb, eqb→eq}
+use lib.ListN.{length, get_or, drop, length-map}
 use Rattle.bits.specs.Bits.{bit, byte, tally, ◌⊕◌}
+use Rattle.bits.specs.Observed.{erased_differ}
 use Rattle.bits.specs.Places.{place_in, listed}
 use Rattle.bits.proofs.Binary.{bit_byte, byte_below, byte-bit_any}
-use Rattle.bits.proofs.Tested.{both_left, both_right, below, below_bit, same_bits, same_bits_eq}
+use Rattle.bits.proofs.Tested.{below, below_bit, same_bits, same_bits_eq}
 use Rattle.coding.specs.Codes.{tapped, outputs, coded}
 use Rattle.coding.specs.Registers.{memory_low}
-use Rattle.coding.proofs.Coded.{short}
+use Rattle.coding.specs.Laws.{AtMostSix}
 use Rattle.search.specs.Forward.{branch_by}
 use Rattle.trellis.specs.Numbering.{newest_low}
-use Rattle.search.specs.Row.{place_of, register_at, taps_of, output_at}
+use Rattle.search.specs.Row.{place_of, register_at, taps_of, output_at, distance_at, Bits, OutputsOf, OutputsTo}
 use Rattle.trellis.specs.Words.{branch_of, word_metric}
 use Rattle.trellis.proofs.Distance.{distance}
 use Rattle.trellis.proofs.Registers.{register_low_lem, same_numbers}
@@ -96,13 +97,37 @@ place_inputs : (s : ℕ) (b : Bool) → s < 32 → low_bits 6 (register_at (plac
 unfolding register_at place_in listed
 place_inputs s b h = same_bits_eq _ _ (below_bit (λ b s. same_bits (low_bits 6 (register_at (place_of s b))) (b ∷ memory_low s)) 32 tt tt b s h)
 
-pub place_outputs : (code : List (List Bool)) → T (short code) → (s : ℕ) (b : Bool) → s < 32 → outputs_at code (place_of s b) ≡ outputs code (b ∷ memory_low s)
+pub place_outputs : (code : List (List Bool)) → AtMostSix code → (s : ℕ) (b : Bool) → s < 32 → outputs_at code (place_of s b) ≡ outputs code (b ∷ memory_low s)
 unfolding output_at
 place_outputs [] t s b h = refl
 place_outputs (g ∷ code) t s b h =
     ap₂ (λ (x : Bool) (l : List Bool). x ∷ l)
-    (parity_tapped g 6 (register_at (place_of s b)) (leb→le (length g) 6 (both_left (leb (length g) 6) (short code) t)) ∙ ap (tapped g) (place_inputs s b h))
-    (place_outputs code (both_right (leb (length g) 6) (short code) t) s b h)
+    (parity_tapped g 6 (register_at (place_of s b)) t.0 ∙ ap (tapped g) (place_inputs s b h))
+    (place_outputs code t.1 s b h)
+
+-- ---- what `outputs` gives for a code whose generators are written as numbers
+abbrev pub numbers : List (List Bool) → List ℕ
+numbers code = map taps_of code
+
+outputs_same : (code : List (List Bool)) (outputs : List (List ℕ)) (place : ℕ) → length outputs ≡ length code → place < 64
+    → ((i : ℕ) → i < length code → OutputsTo (get_or (numbers code) i 0) (get_or outputs i []) 64)
+    → map (λ (l : List ℕ). bit (get_or l place 0)) outputs ≡ outputs_at code place
+outputs_same [] [] place e h p = refl
+outputs_same [] (l ∷ outputs) place e h p = absurd (omega arith)
+outputs_same (g ∷ code) [] place e h p = absurd (omega arith)
+outputs_same (g ∷ code) (l ∷ outputs) place e h p =
+    ap₂ (λ (x : Bool) (o : List Bool). x ∷ o) (ap bit (p 0 (omega arith) place h) ∙ bit_byte (output_at (taps_of g) place))
+    (outputs_same code outputs place (omega arith) h (λ i b. p (suc i) (omega arith)))
+
+module _ (code : List (List Bool)) (outputs : List (List ℕ)) (o : OutputsOf (numbers code) outputs) where
+  pub distance_coded : (received : List ℕ) (place : ℕ) → place < 64 → distance_at outputs received place ≡ tally erased_differ (outputs_at code place) received
+  unfolding distance_at
+  distance_coded received place h =
+      ap (λ (l : List Bool). tally erased_differ l received)
+      (outputs_same code outputs place (o.size ∙ length-map code taps_of) h (λ i b. o.row i (omega (arith, length-map code taps_of))))
+
+  pub outputs_bits : Bits outputs
+  outputs_bits i place h p = output_below (get_or (numbers code) i 0) place _ (o.row i (omega (arith, o.size)) place p)
 
 -- ---- rows by place
 module _ {B : Type 0} (code : List (List Bool)) (f : Bool → B → ℕ) (received : List B) (rows : List (List ℕ)) (symbols : List ℕ) where
@@ -110,12 +135,12 @@ module _ {B : Type 0} (code : List (List Bool)) (f : Bool → B → ℕ) (receiv
   abbrev pub RowAt : ℕ → Type 0
   RowAt k = (place : ℕ) → place < 64 → get_or (get_or rows (get_or symbols k 0) []) place 0 ≡ tally f (outputs_at code place) (drop (k * length code) received)
 
-  branches : T (short code) → (k s : ℕ) (b : Bool) → RowAt k → s < 32 → branch_by rows symbols k s b ≡ branch_of code memory_low f received k s b
+  branches : AtMostSix code → (k s : ℕ) (b : Bool) → RowAt k → s < 32 → branch_by rows symbols k s b ≡ branch_of code memory_low f received k s b
   unfolding branch_by branch_of
   branches six k s b row h = row (place_of s b) (place_below s b h) ∙ ap (λ (o : List Bool). tally f o (drop (k * length code) received)) (place_outputs code six s b h)
 
   -- a word's metric is the sum over its coded bits
-  pub metric_coded : T (short code) → (n : ℕ) → ((k : ℕ) → k < n → RowAt k) → (s : ℕ) (u : List Bool) → s < 32 → length u ≤ n
+  pub metric_coded : AtMostSix code → (n : ℕ) → ((k : ℕ) → k < n → RowAt k) → (s : ℕ) (u : List Bool) → s < 32 → length u ≤ n
       → word_metric newest_low (branch_by rows symbols) s u ≡ tally f (coded code (memory_low s) (reverse u)) received
   metric_coded six n row s u h l =
       metric_same newest_low newest_low register_low_lem (λ s. s) (same_numbers newest_low) (branch_by rows symbols) (branch_of code memory_low f received) n (λ k s b hk. branches six k s b (row k hk)) s u h l

@@ -1,11 +1,11 @@
 -- What `nearest_free` finds. Assumes nothing.
 use mathlib.Core.Path.{◌≡◌, refl, sym, ap, subst, ◌∙◌}
-use mathlib.Core.Bool.{Bool, true, false, cond}
+use mathlib.Core.Bool.{Bool, true, false, ◌||◌}
 use mathlib.Core.List.{List}
 use mathlib.Core.Logic.{◌⊎◌, inl, inr}
 use Prim.Native.Nat.{ℕ, ◌<◌, ◌≤◌}
 use native.Mathlib.Omega.{arith}
-use lib.ListN.{length, get_or, replicate, get_or-replicate}
+use lib.ListN.{get_or, replicate, get_or-replicate}
 use Rattle.trellis.specs.Search.{Ambiguous, Found}
 use Rattle.trellis.specs.Numbering.{newest_low}
 use Rattle.trellis.specs.Words.{OfLength, free_metric}
@@ -13,7 +13,6 @@ use Rattle.trellis.specs.Trellis.{Trellis, wholes, state_metric, survivor, tie, 
 use Rattle.search.specs.Forward.{engine, Starts, Forwarded}
 use Rattle.search.specs.Traceback.{Traced}
 use Rattle.search.specs.Ends.{Other, LowestEnd}
-use Rattle.trellis.specs.declared.Outcome.{Outcome}
 use Rattle.search.specs.declared.free.End.{End}
 use Rattle.trellis.proofs.Registers.{register_low_lem}
 use Rattle.search.proofs.Survivors as surv
@@ -32,22 +31,22 @@ module _ (branch : ℕ → ℕ → Bool → ℕ) (n : ℕ) (h5 : 5 ≤ n) (ps₀
   abbrev X : Trellis ℕ
   X = engine branch zeros
 
-  exact : state_metric wholes X n d.state ≡ d.metric
+  exact : state_metric wholes X n d.state ≡ d.outcome.metric
   exact = sym (f.metrics d.state b.low) ∙ b.exact
 
-  least : (r : ℕ) → r < 32 → d.metric ≤ state_metric wholes X n r
+  least : (r : ℕ) → r < 32 → d.outcome.metric ≤ state_metric wholes X n r
   least r h = omega (arith, b.least r h, f.metrics r h)
 
-  pub decides : (bits : List ℕ) (k : ℕ) (mark both : Bool) → k ≡ n → Traced ps 5 k d.state bits mark → both ≡ cond d.shared true mark
-      → Found (OfLength n) (free_metric newest_low branch) bits (record { metric = d.metric; tie = both })
-  decides bits k mark both en q' e =
+  pub decides : (bits : List ℕ) (k : ℕ) (mark : Bool) → k ≡ n → Traced ps 5 k d.state bits mark
+      → Found (OfLength n) (free_metric newest_low branch) bits (record { metric = d.outcome.metric; tie = d.outcome.tie || mark })
+  decides bits k mark en q' =
       record {
         word = word newest_low d.state (survivor wholes X n d.state);
         written = q.word ∙ surv.bytes_word branch zeros ps n d.state b.low f.bytes;
-        nearest = free.survivor_nearest newest_low register_low_lem branch (λ s. get_or zeros s 0) zero_start n h5 d.metric d.state b.low exact least;
-        metric = sym (free.survivor_metric newest_low register_low_lem branch (λ s. get_or zeros s 0) zero_start n h5 d.metric d.state b.low exact least);
-        tied = λ t. to d.shared refl (sym e ∙ t);
-        alone = λ a. e ∙ from d.shared refl (free.ambiguous_found newest_low register_low_lem branch (λ s. get_or zeros s 0) zero_start n h5 d.metric d.state b.low exact least a);
+        nearest = free.survivor_nearest newest_low register_low_lem branch (λ s. get_or zeros s 0) zero_start n h5 d.outcome.metric d.state b.low exact least;
+        metric = sym (free.survivor_metric newest_low register_low_lem branch (λ s. get_or zeros s 0) zero_start n h5 d.outcome.metric d.state b.low exact least);
+        tied = λ t. to d.outcome.tie refl t;
+        alone = λ a. from d.outcome.tie refl (free.ambiguous_found newest_low register_low_lem branch (λ s. get_or zeros s 0) zero_start n h5 d.outcome.metric d.state b.low exact least a);
       }
     where
       q : Traced ps 5 n d.state bits mark
@@ -56,18 +55,18 @@ module _ (branch : ℕ → ℕ → Bool → ℕ) (n : ℕ) (h5 : 5 ≤ n) (ps₀
       mark_is : mark ≡ tie X 5 n d.state
       mark_is = q.tied ∙ surv.tied_bytes_lem branch zeros ps 5 n d.state false b.low f.bytes
 
-      to : (v : Bool) → d.shared ≡ v → cond v true mark ≡ true → Ambiguous (OfLength n) (free_metric newest_low branch)
+      to : (v : Bool) → d.outcome.tie ≡ v → (v || mark) ≡ true → Ambiguous (OfLength n) (free_metric newest_low branch)
       to true s t =
           let o : Other ms 32 d = b.shared s in
-          free.ends_ambiguous newest_low register_low_lem branch (λ s. get_or zeros s 0) zero_start n h5 d.metric d.state b.low exact least o.at o.low
+          free.ends_ambiguous newest_low register_low_lem branch (λ s. get_or zeros s 0) zero_start n h5 d.outcome.metric d.state b.low exact least o.at o.low
           (sym (f.metrics o.at o.low) ∙ o.same) o.apart
-      to false s t = free.tie_ambiguous newest_low register_low_lem branch (λ s. get_or zeros s 0) zero_start n h5 d.metric d.state b.low exact least (sym mark_is ∙ t)
+      to false s t = free.tie_ambiguous newest_low register_low_lem branch (λ s. get_or zeros s 0) zero_start n h5 d.outcome.metric d.state b.low exact least (sym mark_is ∙ t)
 
-      either_true : (v : Bool) → cond v true true ≡ true
+      either_true : (v : Bool) → (v || true) ≡ true
       either_true true = refl
       either_true false = refl
 
-      from : (v : Bool) → d.shared ≡ v → ((r : ℕ) × (r < 32) × (state_metric wholes X n r ≡ d.metric) × (r ≡ d.state → ⊥)) ⊎ (tie X 5 n d.state ≡ true) → cond v true mark ≡ true
+      from : (v : Bool) → d.outcome.tie ≡ v → ((r : ℕ) × (r < 32) × (state_metric wholes X n r ≡ d.outcome.metric) × (r ≡ d.state → ⊥)) ⊎ (tie X 5 n d.state ≡ true) → (v || mark) ≡ true
       from v s (inl o) =
-          ap (λ (w : Bool). cond w true mark) (sym s ∙ b.other (record { at = o.0; low = o.1; same = f.metrics o.0 o.1 ∙ o.2; apart = o.3 }))
-      from v s (inr t) = ap (λ (w : Bool). cond v true w) (mark_is ∙ t) ∙ either_true v
+          ap (λ (w : Bool). w || mark) (sym s ∙ b.other (record { at = o.0; low = o.1; same = f.metrics o.0 o.1 ∙ o.2; apart = o.3 }))
+      from v s (inr t) = ap (λ (w : Bool). v || w) (mark_is ∙ t) ∙ either_true v

@@ -1,31 +1,30 @@
 -- One ending more keeps the lowest. Assumes nothing.
-use mathlib.Core.Path.{◌≡◌, refl, sym, ap, subst, ◌∙◌}
+use mathlib.Core.Path.{◌≡◌, refl, sym, ap, subst}
 use mathlib.Core.Bool.{Bool, true, false, false≢true}
 use mathlib.Core.List.{List}
-use Prim.Native.Nat.{ℕ, zero, suc, ◌+◌, ◌<◌, ◌≤◌}
+use Prim.Native.Nat.{ℕ, ◌+◌, ◌<◌, ◌≤◌}
 use native.Mathlib.Omega.{arith}
 use native.Mathlib.Decide.{ℕ_discrete, dec_lt}
 use native.Mathlib.Nat.{le_refl}
-use lib.Dec.{T, ltb}
 use lib.ListN.{get_or}
 use borrow.Author.Tests.{lt-ltb, le-ltb}
-use Rattle.search.specs.Ends.{choose, lower_of, Other, LowestEnd}
+use Rattle.search.specs.Ends.{lower_of, Other, LowestEnd}
 use Rattle.search.specs.declared.free.End.{End}
 
-pub less : (d : End) (m : ℕ) (s : ℕ) → m < d.metric → record { metric = m; shared = false; state = s } ≡ lower_of d m s
+pub less : (d : End) (m : ℕ) (s : ℕ) → m < d.outcome.metric → record { outcome = record { metric = m; tie = false }; state = s } ≡ lower_of d m s
 unfolding lower_of
-less d m s h = rw (lt-ltb m d.metric h)
+less d m s h = rw (lt-ltb m d.outcome.metric h)
 
-pub more : (d : End) (m : ℕ) (s : ℕ) → d.metric < m → d ≡ lower_of d m s
+pub more : (d : End) (m : ℕ) (s : ℕ) → d.outcome.metric < m → d ≡ lower_of d m s
 unfolding lower_of
-more d m s h = rw (le-ltb m d.metric (omega arith), lt-ltb d.metric m h)
+more d m s h = rw (le-ltb m d.outcome.metric (omega arith), lt-ltb d.outcome.metric m h)
 
-pub even : (d : End) (m : ℕ) (s : ℕ) → d.metric ≤ m → m ≤ d.metric → record { metric = d.metric; shared = true; state = d.state } ≡ lower_of d m s
+pub even : (d : End) (m : ℕ) (s : ℕ) → d.outcome.metric ≤ m → m ≤ d.outcome.metric → record { outcome = record { metric = d.outcome.metric; tie = true }; state = d.state } ≡ lower_of d m s
 unfolding lower_of
-even d m s h g = rw (le-ltb m d.metric h, le-ltb d.metric m g)
+even d m s h g = rw (le-ltb m d.outcome.metric h, le-ltb d.outcome.metric m g)
 
 module _ (ms : List ℕ) where
-  pub lowest_one : LowestEnd ms 1 (record { metric = get_or ms 0 0; shared = false; state = 0 })
+  pub lowest_one : LowestEnd ms 1 (record { outcome = record { metric = get_or ms 0 0; tie = false }; state = 0 })
   lowest_one =
       record {
         low = omega arith;
@@ -37,14 +36,14 @@ module _ (ms : List ℕ) where
 
   module _ (k : ℕ) (d : End) (i : LowestEnd ms k d) where
     -- an ending is one of those before, or the new one
-    split : (j : ℕ) → j < k + 1 → (x : ℕ) → x ≤ get_or ms k 0 → x ≤ d.metric → x ≤ get_or ms j 0
+    split : (j : ℕ) → j < k + 1 → (x : ℕ) → x ≤ get_or ms k 0 → x ≤ d.outcome.metric → x ≤ get_or ms j 0
     split j h x p q = go (ℕ_discrete j k)
       where
         go : Dec (j ≡ k) → x ≤ get_or ms j 0
         go (yes e) = subst (λ (y : ℕ). x ≤ get_or ms y 0) (sym e) p
         go (no n) = omega (arith, i.least j (omega arith))
 
-    lower_new : get_or ms k 0 < d.metric → LowestEnd ms (k + 1) (record { metric = get_or ms k 0; shared = false; state = k })
+    lower_new : get_or ms k 0 < d.outcome.metric → LowestEnd ms (k + 1) (record { outcome = record { metric = get_or ms k 0; tie = false }; state = k })
     lower_new h =
         record {
           low = omega arith;
@@ -54,16 +53,16 @@ module _ (ms : List ℕ) where
           other = λ o. let z : ⊥ = omega (arith, i.least o.at (omega (arith, o.low, o.apart)), o.same) in absurd z;
         }
 
-    wider : (t : Bool) → Other ms k d → Other ms (k + 1) (record { metric = d.metric; shared = t; state = d.state })
+    wider : (t : Bool) → Other ms k d → Other ms (k + 1) (record { outcome = record { metric = d.outcome.metric; tie = t }; state = d.state })
     wider t o = record { at = o.at; low = omega (arith, o.low); same = o.same; apart = o.apart }
 
-    lower_old : d.metric < get_or ms k 0 → LowestEnd ms (k + 1) d
+    lower_old : d.outcome.metric < get_or ms k 0 → LowestEnd ms (k + 1) d
     lower_old h =
         record {
           low = omega (arith, i.low);
           exact = i.exact;
-          least = λ j hj. split j hj d.metric (omega arith) (le_refl _);
-          shared = λ t. wider d.shared (i.shared t);
+          least = λ j hj. split j hj d.outcome.metric (omega arith) (le_refl _);
+          shared = λ t. wider d.outcome.tie (i.shared t);
           other = λ o. i.other (record { at = o.at; low = below o; same = o.same; apart = o.apart });
         }
       where
@@ -76,20 +75,20 @@ module _ (ms : List ℕ) where
                 let z : ⊥ = omega (arith, o.same) in absurd z
             step (no n) = omega (arith, o.low)
 
-    lower_even : d.metric ≡ get_or ms k 0 → LowestEnd ms (k + 1) (record { metric = d.metric; shared = true; state = d.state })
+    lower_even : d.outcome.metric ≡ get_or ms k 0 → LowestEnd ms (k + 1) (record { outcome = record { metric = d.outcome.metric; tie = true }; state = d.state })
     lower_even h =
         record {
           low = omega (arith, i.low);
           exact = i.exact;
-          least = λ j hj. split j hj d.metric (omega arith) (le_refl _);
+          least = λ j hj. split j hj d.outcome.metric (omega arith) (le_refl _);
           shared = λ t. record { at = k; low = omega arith; same = sym h; apart = λ e. let z : ⊥ = omega (arith, i.low) in z };
           other = λ o. refl;
         }
 
     pub lowest_more : LowestEnd ms (k + 1) (lower_of d (get_or ms k 0) k)
-    lowest_more = go (dec_lt (get_or ms k 0) d.metric) (dec_lt d.metric (get_or ms k 0))
+    lowest_more = go (dec_lt (get_or ms k 0) d.outcome.metric) (dec_lt d.outcome.metric (get_or ms k 0))
       where
-        go : Dec (get_or ms k 0 < d.metric) → Dec (d.metric < get_or ms k 0) → LowestEnd ms (k + 1) (lower_of d (get_or ms k 0) k)
+        go : Dec (get_or ms k 0 < d.outcome.metric) → Dec (d.outcome.metric < get_or ms k 0) → LowestEnd ms (k + 1) (lower_of d (get_or ms k 0) k)
         go (yes l) e = subst (λ (x : End). LowestEnd ms (k + 1) x) (less d (get_or ms k 0) k l) (lower_new l)
         go (no l) (yes g) = subst (λ (x : End). LowestEnd ms (k + 1) x) (more d (get_or ms k 0) k g) (lower_old g)
         go (no l) (no g) = subst (λ (x : End). LowestEnd ms (k + 1) x) (even d (get_or ms k 0) k (omega arith) (omega arith)) (lower_even (omega arith))

@@ -2,7 +2,7 @@
 use mathlib.Core.Path.{◌≡◌, sym, subst, ◌∙◌}
 use mathlib.Core.Bool.{Bool, false}
 use mathlib.Core.List.{List}
-use Prim.Native.Nat.{ℕ, ◌*◌, ◌<◌, ◌≤◌}
+use Prim.Native.Nat.{ℕ, ◌<◌, ◌≤◌}
 use native.Mathlib.Omega.{arith}
 use native.Mathlib.Decide.{ℕ_discrete}
 use lib.ListN.{length, get_or, set, replicate, get_or-replicate}
@@ -13,7 +13,6 @@ use Rattle.trellis.specs.Words.{Leads, word_metric}
 use Rattle.trellis.specs.Trellis.{wholes, survivor, tie, word}
 use Rattle.search.specs.Forward.{engine, Starts, Rows, Forwarded, branch_by}
 use Rattle.search.specs.Traceback.{Traced}
-use Rattle.trellis.specs.declared.Outcome.{Outcome}
 use Rattle.trellis.proofs.Registers.{register_low_lem}
 use Rattle.search.proofs.Running.{branch_le}
 use Rattle.search.proofs.Survivors as surv

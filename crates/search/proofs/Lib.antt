@@ -3,6 +3,7 @@ pub mod Selecting
 pub mod Butterflies
 pub mod Running
 pub mod ByPlace
+pub mod Distances
 pub mod Survivors
 pub mod Tracing
 pub mod Ends

@@ -1,12 +1,12 @@
 -- The loop of `forward`: `advance` is one step of the forward recursion. Assumes nothing.
 use mathlib.Core.Path.{◌≡◌, refl, sym, ap, ap₂, subst, ◌∙◌}
-use mathlib.Core.Bool.{Bool, true, false, cond}
-use mathlib.Core.List.{List, [], ◌∷◌}
-use Prim.Native.Nat.{ℕ, zero, suc, ◌+◌, ◌*◌, ◌<◌, ◌≤◌, ◌/◌, ◌%◌}
+use mathlib.Core.Bool.{Bool, true, false}
+use mathlib.Core.List.{List, []}
+use Prim.Native.Nat.{ℕ, suc, ◌+◌, ◌*◌, ◌<◌, ◌≤◌}
 use native.Mathlib.Omega.{arith}
 use native.Mathlib.Nat.{not-suc-le-zero}
 use native.Mathlib.Numerals.{add-one}
-use lib.Dec.{eqb→eq, eqb, ltb, ltb→lt}
+use lib.Dec.{ltb, ltb→lt}
 use lib.ListN.{length, get_or, set, length-set}
 use lib.Seq.{get_or-set_other}
 use Rattle.bits.specs.Bits.{bit}
@@ -33,7 +33,7 @@ module _ (branch : ℕ → ℕ → Bool → ℕ) (start : List ℕ) where
   abbrev RowAt : List ℕ → ℕ → Type 0
   RowAt row k = (t : ℕ) (b : Bool) → t < 32 → get_or row (place_of (pred_low t b) (bit t)) 0 ≡ branch k (pred_low t b) (bit t)
 
-  module _ (ms : List ℕ) (cs : List ℕ) (k : ℕ) (hm : MetricsAt X ms k) (hc : RowAt cs k) (r : Column) (adv : Advanced ms cs r) where
+  module _ (ms : List ℕ) (cs : List ℕ) (k : ℕ) (hm : MetricsAt X ms k) (hc : RowAt cs k) (r : Column (List ℕ)) (adv : Advanced ms cs r) where
     via_at : (t : ℕ) (b : Bool) → t < 32 → candidate_of ms cs t b ≡ candidate wholes X k t b
     via_at t b h = ap₂ (λ (x y : ℕ). x + y) (hm (pred_low t b) (register_low_lem.pred_below t b h)) (hc t b h)
 
@@ -85,7 +85,7 @@ module _ (rs : List (List ℕ)) (ss : List ℕ) where
     row_at t b h = ap (λ (i : ℕ). get_or (get_or rs i []) (place_of (pred_low t b) (bit t)) 0) ex
 
     -- one step more
-    pub running_more : (ps₀ ps : List (List ℕ)) (ms : List ℕ) (r : Column) → Running (branch_by rs ss) start ps₀ ps ms k → k < length ps₀
+    pub running_more : (ps₀ ps : List (List ℕ)) (ms : List ℕ) (r : Column (List ℕ)) → Running (branch_by rs ss) start ps₀ ps ms k → k < length ps₀
         → Advanced ms (get_or rs x []) r → Running (branch_by rs ss) start ps₀ (set ps k r.predecessors) r.metrics (k + 1)
     running_more ps₀ ps ms r i h adv =
         let size : length ps ≡ length ps₀ = i.size in

@@ -1,20 +1,21 @@
--- The ways out of `lesser`, `decide` and `tie_mark`. Assumes nothing.
-use mathlib.Core.Path.{◌≡◌, refl, sym}
+-- The lesser candidate, and the ways out of `decide` and `tie_mark`. Assumes nothing.
+use mathlib.Core.Path.{◌≡◌, refl}
 use mathlib.Core.Bool.{Bool, true, false, cond}
-use Prim.Native.Nat.{ℕ, ◌+◌, ◌<◌, ◌≤◌}
+use Prim.Native.Nat.{ℕ, ◌<◌, ◌≤◌, min}
 use native.Mathlib.Omega.{arith}
+use native.Mathlib.Decide.{dec_lt}
 use lib.Dec.{ltb, eqb}
 use Rattle.search.specs.Select.{lesser_of, decide_of, tie_mark_of}
 use borrow.Author.Tests.{lt-ltb, le-ltb, eq-eqb, ne_eqb}
 
 module _ (lower upper : ℕ) where
-  pub lesser_upper : upper < lower → upper ≡ lesser_of lower upper
+  pub lesser_min : min lower upper ≡ lesser_of lower upper
   unfolding lesser_of
-  lesser_upper h = rw (lt-ltb upper lower h) refl
-
-  pub lesser_lower : lower ≤ upper → lower ≡ lesser_of lower upper
-  unfolding lesser_of
-  lesser_lower h = rw (le-ltb upper lower h) refl
+  lesser_min = go (dec_lt upper lower)
+    where
+      go : Dec (upper < lower) → min lower upper ≡ cond (ltb upper lower) upper lower
+      go (yes h) = let e : min lower upper ≡ upper = omega arith in rw (lt-ltb upper lower h) e
+      go (no h) = let e : min lower upper ≡ lower = omega arith in rw (le-ltb upper lower (omega arith)) e
 
   pub decide_upper : upper < lower → 16 ≡ decide_of lower upper
   unfolding decide_of

@@ -1,13 +1,14 @@
 -- The loop of `traceback`: what is traced and tied_bytes, up to a step, with the bits and the tie so far. Assumes nothing.
-use mathlib.Core.Path.{◌≡◌, refl, sym, ap, ap₂, subst, ◌∙◌}
-use mathlib.Core.Bool.{Bool, true, false}
-use mathlib.Core.List.{List, [], ◌∷◌}
-use Prim.Native.Nat.{ℕ, zero, suc, ◌+◌, ◌-◌, ◌/◌, ◌%◌, ◌<◌, ◌≤◌}
+use mathlib.Core.Path.{◌≡◌, refl, sym, ap, subst, subst₂, ◌∙◌}
+use mathlib.Core.Bool.{Bool, true, false, cond, ◌||◌, ◌&&◌}
+use mathlib.Core.List.{List, []}
+use Prim.Native.Nat.{ℕ, suc, ◌-◌, ◌%◌, ◌<◌, ◌≤◌}
 use native.Mathlib.Omega.{arith}
 use native.Mathlib.Nat.{le_refl}
 use lib.Dec.{leb}
 use lib.ListN.{length, get_or, set, drop, length-set}
-use lib.Seq.{drop-cons, drop-length, get_or-set_same, drop-set-lt}
+use lib.Seq.{drop-length}
+use Rattle.bits.proofs.Filled.{drop-set_here}
 use Rattle.search.specs.Traceback.{traced, from_byte, lowest, tie_with, tied_bytes, Traced}
 
 pub record Tracing (ps : List (List ℕ)) (since end : ℕ) (bits₀ bits : List ℕ) (state step : ℕ) (tie : Bool) : Type 0 where
@@ -17,11 +18,11 @@ pub record Tracing (ps : List (List ℕ)) (since end : ℕ) (bits₀ bits : List
   pub word : traced lowest (from_byte ps) (length bits₀) end [] ≡ traced lowest (from_byte ps) step state (drop step bits)
   pub tied : tied_bytes ps since (length bits₀) end false ≡ tied_bytes ps since step state tie
 
-drop-set_here : (l : List ℕ) (n v : ℕ) → n < length l → drop n (set l n v) ≡ v ∷ drop (suc n) l
-drop-set_here l n v h =
-    let k : n < length (set l n v) = subst (λ (m : ℕ). n < m) (sym (length-set l n v)) h in
-    drop-cons (set l n v) n 0 k
-    ∙ ap₂ (λ (x : ℕ) (r : List ℕ). x ∷ r) (get_or-set_same l n v 0 h) (drop-set-lt (suc n) l n v (le_refl _))
+-- a tie so far, or a late byte with the mark
+tie_or : (tie late mark : Bool) → (tie || (late && mark)) ≡ cond tie true (cond late mark false)
+tie_or true late mark = refl
+tie_or false true mark = refl
+tie_or false false mark = refl
 
 module _ (ps : List (List ℕ)) (since end : ℕ) (bits₀ : List ℕ) where
   pub tracing_none : end < 32 → Tracing ps since end bits₀ bits₀ end (length bits₀) false
@@ -41,14 +42,13 @@ module _ (ps : List (List ℕ)) (since end : ℕ) (bits₀ : List ℕ) where
         tied = i.tied;
       }
 
-  pub tracing_more : (bits : List ℕ) (state step : ℕ) (tie tie' : Bool) (state' : ℕ) → Tracing ps since end bits₀ bits state step tie → 0 < step
-      → tie' ≡ tie_with tie (get_or (get_or ps (step - 1) []) state 0) (leb since (step - 1)) → state' ≡ get_or (get_or ps (step - 1) []) state 0 % 32
-      → Tracing ps since end bits₀ (set bits (step - 1) (state % 2)) state' (step - 1) tie'
-  tracing_more bits state step tie tie' state' i h et es =
+  pub tracing_more : {bits : List ℕ} {state step : ℕ} {tie : Bool} {state' : ℕ} → Tracing ps since end bits₀ bits state step tie → 0 < step
+      → state' ≡ get_or (get_or ps (step - 1) []) state 0 % 32
+      → Tracing ps since end bits₀ (set bits (step - 1) (state % 2)) state' (step - 1) (tie || (leb since (step - 1) && leb 32 (get_or (get_or ps (step - 1) []) state 0)))
+  tracing_more {bits} {state} {step} {tie} {state'} i h es =
       let e : step ≡ suc (step - 1) = omega arith in
-      subst (λ (s : ℕ). Tracing ps since end bits₀ (set bits (step - 1) (state % 2)) s (step - 1) tie') (sym es)
-      (subst (λ (b : Bool). Tracing ps since end bits₀ (set bits (step - 1) (state % 2)) (get_or (get_or ps (step - 1) []) state 0 % 32) (step - 1) b) (sym et)
-      (tracing_suc bits state (step - 1) tie (subst (λ (k : ℕ). Tracing ps since end bits₀ bits state k tie) e i)))
+      subst₂ (λ (s : ℕ) (t : Bool). Tracing ps since end bits₀ (set bits (step - 1) (state % 2)) s (step - 1) t) (sym es) (sym (tie_or tie (leb since (step - 1)) (leb 32 (get_or (get_or ps (step - 1) []) state 0))))
+      (tracing_suc bits state (step - 1) tie (subst (λ (k : ℕ). Tracing ps since end bits₀ bits state k tie) e i))
 
   pub tracing_done : (bits : List ℕ) (state step : ℕ) (tie : Bool) → Tracing ps since end bits₀ bits state step tie → step ≤ 0
       → Traced ps since (length bits₀) end bits tie

@@ -1,5 +1,5 @@
 -- One step of the engine: 32 states with the newest input lowest, u16 metrics, a row of 64 branch metrics.
-use Rattle.std.specs.Prelude.{◌≡◌, Bool, true, false, List, ℕ, ◌+◌, ◌*◌, ◌/◌, ◌%◌, ◌<◌, get_or}
+use Rattle.std.specs.Prelude.{◌≡◌, Bool, true, false, List, ℕ, ◌+◌, ◌<◌, get_or}
 use Rattle.search.specs.Select.{lesser_of, byte_of}
 use Rattle.bits.specs.Bits.{bit}
 use Rattle.trellis.specs.Numbering.{pred_low}
@@ -20,6 +20,6 @@ metric_into ms row t = lesser_of (candidate_of ms row t false) (candidate_of ms 
 abbrev pub byte_into : List ℕ → List ℕ → ℕ → ℕ
 byte_into ms row t = byte_of (candidate_of ms row t false) (candidate_of ms row t true) (pred_low t false)
 
-pub record Advanced (ms : List ℕ) (row : List ℕ) (r : Column) : Type 0 where
+pub record Advanced (ms : List ℕ) (row : List ℕ) (r : Column (List ℕ)) : Type 0 where
   pub metric : (t : ℕ) → t < 32 → get_or r.metrics t 0 ≡ metric_into ms row t
   pub byte : (t : ℕ) → t < 32 → get_or r.predecessors t 0 ≡ byte_into ms row t

@@ -1,5 +1,5 @@
 -- The forward recursion over the engine's arrays, a step for each symbol.
-use Rattle.std.specs.Prelude.{◌≡◌, Bool, true, false, List, [], ℕ, ◌+◌, ◌*◌, ◌/◌, ◌%◌, ◌≤◌, ◌<◌, length, get_or}
+use Rattle.std.specs.Prelude.{◌≡◌, Bool, true, false, List, [], ℕ, ◌≤◌, ◌<◌, length, get_or}
 use Rattle.trellis.specs.Numbering.{pred_low, newest_low}
 use Rattle.trellis.specs.Trellis.{Trellis, wholes, state_metric, candidate}
 use Rattle.search.specs.Row.{place_of}

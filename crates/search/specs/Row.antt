@@ -1,10 +1,10 @@
 -- A row of 64 branch metrics: its layout, and the output bits of a code in it. A state has its newest input lowest.
-use Rattle.std.specs.Prelude.{◌≡◌, Bool, List, [], ◌∷◌, ℕ, ◌+◌, ◌*◌, ◌/◌, ◌%◌, ◌<◌, get_or}
+use Rattle.std.specs.Prelude.{◌≡◌, Bool, List, [], ◌∷◌, map, ℕ, ◌+◌, ◌*◌, ◌/◌, ◌%◌, ◌<◌, length, get_or}
 use Rattle.std.specs.Int.Bits.{bit_and}
 use Rattle.std.specs.Int.Count.{ones}
-use Rattle.bits.specs.Bits.{bit, byte}
+use Rattle.bits.specs.Bits.{bit, byte, tally}
+use Rattle.bits.specs.Observed.{erased_differ}
 use Rattle.bits.specs.Places.{listed, place_in}
-use Rattle.trellis.specs.Numbering.{register_low}
 
 -- The place of the branch from the state s with the input b: by the state's low four bits, then the input, then the state's high bit.
 abbrev pub place_of : ℕ → Bool → ℕ
@@ -34,3 +34,19 @@ output_at taps place = bit (ones (bit_and (register_at place) taps))
 -- the first k places of a list hold the output bits of a generator
 abbrev pub OutputsTo : ℕ → List ℕ → ℕ → Type 0
 OutputsTo taps l k = (place : ℕ) → place < k → get_or l place 0 ≡ byte (output_at taps place)
+
+-- ---- rows of output bits, one for each generator, against what was received of a step
+pub record OutputsOf (generators : List ℕ) (outputs : List (List ℕ)) : Type 0 where
+  pub size : length outputs ≡ length generators
+  pub row : (i : ℕ) → i < length generators → OutputsTo (get_or generators i 0) (get_or outputs i []) 64
+
+-- each is a bit at each place
+abbrev pub Bits : List (List ℕ) → Type 0
+Bits outputs = (i place : ℕ) → i < length outputs → place < 64 → get_or (get_or outputs i []) place 0 < 2
+
+-- in how many bits those of a place differ, over the observed ones
+unfoldable pub distance_at : List (List ℕ) → List ℕ → ℕ → ℕ
+distance_at outputs received place = tally erased_differ (map (λ (l : List ℕ). bit (get_or l place 0)) outputs) received
+
+abbrev pub DistancesTo : List (List ℕ) → List ℕ → List ℕ → ℕ → Type 0
+DistancesTo outputs received row k = (place : ℕ) → place < k → get_or row place 0 ≡ distance_at outputs received place

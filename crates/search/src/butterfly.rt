@@ -2,17 +2,17 @@
 // follow n and n + 16, so that loads are contiguous.
 ghost use Rattle.search.specs.Butterfly.{Advanced, Fit};
 
-use crate::select::{lesser, predecessor_byte};
+use crate::select::predecessor_byte;
 
-// The metrics after a step, and the predecessor byte of each state: the predecessor, and 96 more where both cost the same.
-#[derive(Clone, Copy)]
-pub struct Column {
-    pub metrics: [u16; 32],
+// The metrics of all states after a step, and a predecessor byte of each.
+#[derive(Clone, Copy, Debug, PartialEq)]
+pub struct Column<M> {
+    pub metrics: M,
     pub predecessors: [u8; 32],
 }
 
-// One step of the search. row: the branch metrics from n into 2 n, 16 of them, from n into 2 n + 1, and the same from n + 16.
-pub fn advance(metrics: [u16; 32], row: [u16; 64]) -> Column
+// One step of the search. A byte is the predecessor, and 96 more where both cost the same. row: the branch metrics from n into 2 n, 16 of them, from n into 2 n + 1, and the same from n + 16.
+pub fn advance(metrics: [u16; 32], row: [u16; 64]) -> Column<[u16; 32]>
     requires { Fit metrics row }
     ensures { Advanced metrics row result }
 {
@@ -26,8 +26,8 @@ pub fn advance(metrics: [u16; 32], row: [u16; 64]) -> Column
         let c = lower + row[n + 16];
         let d = upper + row[n + 48];
         let from = n as u8;
-        next[n * 2] = lesser(a, b);
-        next[n * 2 + 1] = lesser(c, d);
+        next[n * 2] = a.min(b);
+        next[n * 2 + 1] = c.min(d);
         predecessors[n * 2] = predecessor_byte(a, b, from);
         predecessors[n * 2 + 1] = predecessor_byte(c, d, from);
     }

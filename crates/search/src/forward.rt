@@ -1,27 +1,24 @@
 // The forward recursion.
 ghost use Rattle.std.specs.Prelude.{◌≤◌, length};
-ghost use Rattle.search.specs.Forward.{Forwarded, Rows, Starts, branch_by, engine};
+ghost use Rattle.search.specs.Forward.{Forwarded, Starts, branch_by, engine};
 
+use crate::Received;
 use crate::butterfly::advance;
-use bits::wide;
 
-// The forward recursion, a step for each symbol: its branch metrics are rows[symbol]. Stores each state's predecessor byte.
-pub fn forward(
-    rows: &[[u16; 64]],
-    symbols: &[u8],
-    start: [u16; 32],
-    predecessors: &mut [[u8; 32]],
-) -> [u16; 32]
-    requires { (length symbols.now ≤ 130) × (length symbols.now ≤ length predecessors.old) × Starts start × Rows rows.now symbols.now }
-    ensures { Forwarded (engine (branch_by rows.now symbols.now) start) predecessors.old predecessors.new (length symbols.now) result }
-{
-    let mut metrics = start;
-    for step in 0..symbols.len() {
-        let symbol = wide(symbols[step]);
-        let column = advance(metrics, rows[symbol]);
-        metrics = column.metrics;
-        let chosen = column.predecessors;
-        predecessors[step] = chosen;
+impl Received<'_> {
+    // The forward recursion, a step for each symbol. Stores each state's predecessor byte, and gives the metrics after the last.
+    pub fn forward(self, start: [u16; 32], predecessors: &mut [[u8; 32]]) -> [u16; 32]
+        requires { (length self.symbols.now ≤ length predecessors.old) × Starts start }
+        ensures { Forwarded (engine (branch_by self.entry.rows.now self.entry.symbols.now) start) predecessors.old predecessors.new (length self.entry.symbols.now) result }
+    {
+        let mut metrics = start;
+        for step in 0..self.symbols.len() {
+            let symbol = usize::from(self.symbols[step]);
+            let column = advance(metrics, self.rows[symbol]);
+            metrics = column.metrics;
+            let chosen = column.predecessors;
+            predecessors[step] = chosen;
+        }
+        metrics
     }
-    metrics
 }

@@ -1,20 +1,20 @@
 // The search over all starting and ending states (SACCH).
-ghost use Rattle.std.specs.Prelude.{cond, true, ◌≡◌, ◌<◌, ◌≤◌, length};
+ghost use Rattle.std.specs.Prelude.{◌≡◌, ◌≤◌, length};
 ghost use Rattle.search.specs.Ends.{LowestEnd, lower_of};
-ghost use Rattle.search.specs.Forward.{Rows, branch_by};
+ghost use Rattle.search.specs.Forward.{branch_by};
 ghost use Rattle.trellis.specs.Numbering.{newest_low};
 ghost use Rattle.trellis.specs.Search.{Found};
 ghost use Rattle.trellis.specs.Words.{OfLength, free_metric};
 
-use crate::forward::forward;
+use crate::Received;
 use crate::traceback::traceback;
+use std::cmp::Ordering;
 use trellis::Outcome;
 
-// The least metric, the state that has it, and whether another state has it too.
-#[derive(Clone, Copy)]
+// The least metric, whether another state has it too, and the state that has it.
+#[derive(Clone, Copy, Debug, PartialEq, Eq)]
 pub struct End {
-    pub metric: u16,
-    pub shared: bool,
+    pub outcome: Outcome,
     pub state: usize,
 }
 
@@ -22,20 +22,20 @@ pub struct End {
 fn lower(lowest: End, metric: u16, state: usize) -> End
     ensures { result ≡ lower_of lowest metric state }
 {
-    if metric < lowest.metric {
-        return End {
-            metric,
-            shared: false,
+    let least = lowest.outcome.metric;
+    match metric.cmp(&least) {
+        Ordering::Less => End {
+            outcome: Outcome { metric, tie: false },
             state,
-        };
-    }
-    if lowest.metric < metric {
-        return lowest;
-    }
-    End {
-        metric: lowest.metric,
-        shared: true,
-        state: lowest.state,
+        },
+        Ordering::Equal => End {
+            outcome: Outcome {
+                metric: least,
+                tie: true,
+            },
+            state: lowest.state,
+        },
+        Ordering::Greater => lowest,
     }
 }
 
@@ -43,8 +43,10 @@ fn lowest_end(metrics: [u16; 32]) -> End
     ensures { LowestEnd metrics 32 result }
 {
     let mut lowest = End {
-        metric: metrics[0],
-        shared: false,
+        outcome: Outcome {
+            metric: metrics[0],
+            tie: false,
+        },
         state: 0,
     };
     for state in 1..32 {
@@ -53,24 +55,20 @@ fn lowest_end(metrics: [u16; 32]) -> End
     lowest
 }
 
-fn either(a: bool, b: bool) -> bool
-    ensures { result ≡ cond a true b }
-{
-    if a { true } else { b }
-}
-
-// Writes a nearest word over all starts and ends, a step for each symbol. A tie counts from step 5 on: before it the register still
-// holds every input, so that two paths into a state differ in their starts alone and have one word.
-pub fn nearest_free(rows: &[[u16; 64]], symbols: &[u8], bits: &mut [u8]) -> Outcome
-    requires { (5 ≤ length symbols.now) × (length symbols.now ≤ 130) × (length bits.old ≡ length symbols.now) × Rows rows.now symbols.now }
-    ensures { Found (OfLength (length symbols.now)) (free_metric newest_low (branch_by rows.now symbols.now)) bits.new result }
-{
-    let mut predecessors = [[0u8; 32]; 130];
-    let metrics = forward(rows, symbols, [0; 32], &mut predecessors);
-    let end = lowest_end(metrics);
-    let tie = traceback(&predecessors, end.state, 5, bits);
-    Outcome {
-        metric: end.metric,
-        tie: either(end.shared, tie),
+impl Received<'_> {
+    // Writes a nearest word over all starts and ends, a step for each symbol. A tie counts from step 5 on: before it the register still
+    // holds every input, so that two paths into a state differ in their starts alone and have one word.
+    pub fn nearest_free(self, bits: &mut [u8]) -> Outcome
+        requires { (5 ≤ length self.symbols.now) × (length bits.old ≡ length self.symbols.now) }
+        ensures { Found (OfLength (length self.entry.symbols.now)) (free_metric newest_low (branch_by self.entry.rows.now self.entry.symbols.now)) bits.new result }
+    {
+        let mut predecessors = [[0u8; 32]; 130];
+        let metrics = self.forward([0; 32], &mut predecessors);
+        let end = lowest_end(metrics);
+        let tie = traceback(&predecessors, end.state, 5, bits);
+        Outcome {
+            metric: end.outcome.metric,
+            tie: end.outcome.tie | tie,
+        }
     }
 }

@@ -4,11 +4,12 @@
 
 mod between;
 mod butterfly;
-pub mod forward;
+mod forward;
 mod free;
+mod received;
 pub mod row;
 mod select;
 mod traceback;
 
-pub use between::nearest_between;
-pub use free::nearest_free;
+pub use butterfly::Column;
+pub use received::Received;

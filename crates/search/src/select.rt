@@ -1,13 +1,6 @@
 // Compare and select: which of the candidates through a state's two predecessors survives.
 ghost use Rattle.std.specs.Prelude.{◌≡◌, ◌<◌};
-ghost use Rattle.search.specs.Select.{byte_of, decide_of, lesser_of, tie_mark_of};
-
-// The lesser of the candidates through a state's two predecessors.
-pub fn lesser(lower: u16, upper: u16) -> u16
-    ensures { result ≡ lesser_of lower upper }
-{
-    if upper < lower { upper } else { lower }
-}
+ghost use Rattle.search.specs.Select.{byte_of, decide_of, tie_mark_of};
 
 // What the upper predecessor is above the lower one, where its candidate is less: of equal candidates the lower survives.
 fn decide(lower: u16, upper: u16) -> u8

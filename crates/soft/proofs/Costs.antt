@@ -4,8 +4,6 @@ use mathlib.Core.Bool.{Bool, true, false, cond, not, beq}
 use mathlib.Core.List.{List, [], ◌∷◌}
 use Prim.Native.Nat.{ℕ, ◌+◌, ◌-◌, ◌*◌, ◌/◌, ◌%◌, ◌<◌}
 use native.Mathlib.Omega.{arith}
-use lib.Bits.{bit_and}
-use lib.Count.{ones}
 use lib.Dec.{eqb, eqb→eq}
 use lib.ListN.{get_or}
 use lib.Ieee.{Float, nan, binary64, add}
@@ -13,7 +11,7 @@ use Rattle.bits.specs.Bits.{bit, ◌⊕◌}
 use Rattle.bits.proofs.Tested.{below, below_bit, same_bits, same_bits_eq}
 use Rattle.bits.proofs.Binary.{byte_below}
 use Rattle.coding.specs.Codes.{outputs, tapped, dcch}
-use Rattle.coding.specs.Registers.{memory_high}
+use Rattle.coding.specs.Registers.{memory_high, Stepped}
 use Rattle.trellis.specs.Numbering.{pred_high, newest_high}
 use Rattle.soft.specs.Reliability.{zero_f, magnitude, negative, bit_cost}
 use Rattle.soft.specs.Branch.{pair_cost}
@@ -51,12 +49,9 @@ pair_costs x y ea eb ec ed true false = ap₂ (add binary64) eb ec
 pair_costs x y ea eb ec ed true true = ap₂ (add binary64) eb ed
 
 -- ---- `output_pairs`
-number_test : ℕ → Bool
-number_test n = eqb (ones (bit_and (n * 2) 0o65) % 2 * 2 + ones (bit_and (n * 2) 0o57) % 2) (output_number n false)
-
-pub output_number_lem : (n p q : ℕ) → n < 16 → p ≡ ones (bit_and (n * 2) 0o65) % 2 → q ≡ ones (bit_and (n * 2) 0o57) % 2 → p * 2 + q ≡ output_number n false
-unfolding number_test output_of tapped ones
-output_number_lem n p q h ep eq = ap₂ (λ (a b : ℕ). a * 2 + b) ep eq ∙ eqb→eq _ (output_number n false) (below number_test 16 tt n h)
+pub output_number_lem : (n : ℕ) {next : ℕ} {o : List ℕ} → Stepped dcch memory_high (n * 2) false next o → get_or o 0 0 * 2 + get_or o 1 0 ≡ output_number n false
+unfolding output_of
+output_number_lem n step = ap (λ (l : List ℕ). get_or l 0 0 * 2 + get_or l 1 0) step.sent
 
 -- ---- `branch_metrics`
 flip_test : ℕ → Bool

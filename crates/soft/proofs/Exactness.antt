@@ -14,6 +14,7 @@ use lib.Ieee.Back.{round_whole}
 use lib.Ieee.Exact.{HasValue}
 use Rattle.bits.specs.Bits.{◌⊕◌, tally}
 use Rattle.bits.proofs.Tally.{drop_two}
+use Rattle.coding.specs.Laws.{dcch_laws}
 use Rattle.coding.specs.Codes.{outputs, dcch}
 use Rattle.coding.specs.Registers.{memory_high}
 use Rattle.trellis.specs.Search.{First}
@@ -141,7 +142,7 @@ module _ (values : List Float) (n : ℕ) (twice : length values ≡ n * 2) (h5 :
 
   cost_same : (u : List Bool) → word_metric newest_high branch 0 u ≡ total_cost values u
   unfolding total_cost
-  cost_same u = distance.distance newest_high register_high_lem dcch tt whole_cost values 0 u (lit< tt)
+  cost_same u = distance.distance newest_high register_high_lem dcch dcch_laws.six whole_cost values 0 u (lit< tt)
 
   pub soft_nearest : First (Terminated n) (total_cost values) (soft_word values n)
   unfolding soft_word

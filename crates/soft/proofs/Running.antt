@@ -17,7 +17,7 @@ use Rattle.soft.specs.Branch.{soft_trellis}
 use Rattle.soft.specs.RustOrder.{rust_from}
 use Rattle.soft.specs.Step.{lesser_of, chosen_of, stored_of, candidate_of, metric_into, chosen_into, Branched, Advanced, StoredTo}
 use Rattle.soft.specs.declared.step.Branches.{Branches}
-use Rattle.soft.specs.declared.step.Column.{Column}
+use Rattle.search.specs.declared.butterfly.Column.{Column}
 use Rattle.soft.proofs.Costs.{branch_into_lem}
 use Rattle.soft.proofs.RustOrder.{rust_stored}
 
@@ -41,7 +41,7 @@ pub running_none : (values : List Float) (n : ℕ) (ms : List Float) (rows : Lis
 running_none values n ms rows e l = record { low = omega arith; size = l; metrics = start_metrics values ms e; stored = λ k h. absurd (not-suc-le-zero h) }
 
 module _ (values ms : List Float) (k : ℕ) (hm : MetricsAt values ms k) (branch : Branches) (hb : Branched (get_or values (k * 2) nan) (get_or values (k * 2 + 1) nan) branch)
-    (r : Column) (adv : Advanced ms branch.zeros branch.ones r) where
+    (r : Column (List Float)) (adv : Advanced ms branch.zeros branch.ones r) where
   candidate_at : (t : ℕ) (b : Bool) → t < 32 → candidate_of ms branch.zeros branch.ones t b ≡ candidate doubles (soft_trellis values) k t b
   candidate_at t b h = ap₂ (add binary64) (hm (pred_high t b) (register_high_lem.pred_below t b h)) (branch_into_lem hb t b h)
 
@@ -67,7 +67,7 @@ module _ (values ms : List Float) (k : ℕ) (hm : MetricsAt values ms k) (branch
 
 pub running_more : {values : List Float} {n : ℕ} {ms : List Float} {rows : List (List ℕ)} {k : ℕ} → Running values n ms rows k → k < n → n ≤ 130
     → n * 2 ≤ length values → all_finite values ≡ true
-    → (branch : Branches) → Branched (get_or values (k * 2) nan) (get_or values (k * 2 + 1) nan) branch → (r : Column) → Advanced ms branch.zeros branch.ones r
+    → (branch : Branches) → Branched (get_or values (k * 2) nan) (get_or values (k * 2 + 1) nan) branch → (r : Column (List Float)) → Advanced ms branch.zeros branch.ones r
     → Running values n r.metrics (set rows k r.predecessors) (k + 1)
 running_more {values} {n} {ms} {rows} {k} i h l long all branch hb r adv =
     record {

@@ -9,22 +9,17 @@ use native.Mathlib.Numerals.{add-one}
 use lib.ListN.{length, get_or, drop, drop_of_length-le}
 use lib.Seq.{drop-cons}
 use lib.Ieee.{Float, nan}
+use mir.Val.{bool_byte}
 use Rattle.bits.specs.Bits.{bit, bits, disagreement, tally}
 use Rattle.bits.proofs.Binary.{differ_le}
 use Rattle.soft.specs.Reliability.{negative, sign_count}
 
--- the test of two bits
-pub differ_true : (a b : Bool) → not (beq a b) ≡ true → 1 ≡ disagreement a b
-differ_true true true h = cc
-differ_true true false h = refl
-differ_true false true h = refl
-differ_true false false h = cc
-
-pub differ_false : (a b : Bool) → not (beq a b) ≡ false → 0 ≡ disagreement a b
-differ_false true true h = refl
-differ_false true false h = cc
-differ_false false true h = cc
-differ_false false false h = refl
+-- the test of two bits, as a number
+pub differ_byte : (a b : Bool) → bool_byte (not (beq a b)) ≡ disagreement a b
+differ_byte true true = refl
+differ_byte true false = refl
+differ_byte false true = refl
+differ_byte false false = refl
 
 pub record Counting (coded : List ℕ) (values : List Float) (n k : ℕ) : Type 0 where
   pub low : k ≤ length coded

@@ -9,7 +9,7 @@ use Rattle.trellis.specs.Numbering.{pred_high}
 use Rattle.soft.specs.Branch.{pair_cost}
 use Rattle.soft.specs.RustOrder.{rust_from}
 use Rattle.soft.specs.declared.step.Branches.{Branches}
-use Rattle.soft.specs.declared.step.Column.{Column}
+use Rattle.search.specs.declared.butterfly.Column.{Column}
 
 -- ---- branch metrics
 -- an output pair as a number, its first bit worth two
@@ -58,7 +58,7 @@ abbrev pub chosen_into : List Float → List Float → List Float → ℕ → �
 chosen_into ms zeros ones t = chosen_of (candidate_of ms zeros ones t false) (candidate_of ms zeros ones t true) (pred_high t false)
 
 -- the lesser candidates, and the predecessors that they come through
-pub record Selected (ms zeros ones : List Float) (r : Column) : Type 0 where
+pub record Selected (ms zeros ones : List Float) (r : Column (List Float)) : Type 0 where
   pub metric : (t : ℕ) → t < 32 → get_or r.metrics t nan ≡ metric_into ms zeros ones t
   pub chosen : (t : ℕ) → t < 32 → get_or r.predecessors t 0 ≡ chosen_into ms zeros ones t
 
@@ -66,7 +66,7 @@ pub record Selected (ms zeros ones : List Float) (r : Column) : Type 0 where
 unfoldable pub stored_of : Float → ℕ → ℕ
 stored_of metric chosen = cond (eq metric (inf false)) 0 chosen
 
-pub record Advanced (ms zeros ones : List Float) (r : Column) : Type 0 where
+pub record Advanced (ms zeros ones : List Float) (r : Column (List Float)) : Type 0 where
   pub metric : (t : ℕ) → t < 32 → get_or r.metrics t nan ≡ metric_into ms zeros ones t
   pub stored : (t : ℕ) → t < 32 → get_or r.predecessors t 0 ≡ stored_of (metric_into ms zeros ones t) (chosen_into ms zeros ones t)
 

@@ -13,22 +13,20 @@ ghost use Rattle.soft.specs.RustOrder.{highest};
 ghost use Rattle.soft.specs.Soft.{SoftFound};
 ghost use Rattle.soft.specs.Step.{StoredTo, rows_at};
 
-use crate::reliability::infinity;
 pub use crate::reliability::{all_finite, sign_count};
 use crate::step::{advance, branch_metrics, output_pairs};
-use bits::wide;
 
 // The path metrics before the first step: state 0 costs nothing, and no other is reached.
 fn start_metrics() -> [f64; 32]
     ensures { result ≡ zero_f ∷ replicate 31 (inf false) }
 {
-    let top = infinity();
-    let mut metrics = [top; 32];
+    let mut metrics = [f64::INFINITY; 32];
     metrics[0] = 0.0;
     metrics
 }
 
-// The forward recursion, two finite reliabilities to a step: the predecessor byte of each state at each step.
+// The forward recursion, two finite reliabilities to a step: the predecessor byte of each state at each step. (That of the crate `search`
+// takes the step's row from a table: of the loop only the two stores are the same.)
 fn forward(values: &[f64]) -> [[u8; 32]; 130]
     requires { (length values.now ≤ 260) × (all_finite values.now ≡ true) }
     ensures { (length result ≡ 130) × StoredTo values.now result (length values.now / 2) }
@@ -39,29 +37,25 @@ fn forward(values: &[f64]) -> [[u8; 32]; 130]
     let mut predecessors = [[0u8; 32]; 130];
     for step in 0..steps {
         let branch = branch_metrics(pairs, values[step * 2], values[step * 2 + 1]);
-        let zeros = branch.zeros;
-        let ones = branch.ones;
-        let column = advance(metrics, zeros, ones);
-        let next = column.metrics;
+        let column = advance(metrics, branch);
+        metrics = column.metrics;
         let chosen = column.predecessors;
-        metrics = next;
         predecessors[step] = chosen;
     }
     predecessors
 }
 
 // Reads the survivor into state 0 back: the input of each step is the highest bit of the state that it enters.
+// (The crate `search` has its own: its states are numbered the other way round, and its bytes also mark ties.)
 fn traceback(predecessors: &[[u8; 32]], word: &mut [u8])
     requires word_in_bounds { length word.old ≤ length predecessors.now }
     requires by_index { (k s : ℕ) → k < length word.old → s < 32 → rows_at predecessors.now k s < 32 }
     ensures { word.new ≡ traced highest (rows_at predecessors.now) (length word.old) 0 [] }
 {
     let mut state = 0;
-    let mut step = word.len();
-    while 0 < step {
-        step -= 1;
+    for step in (0..word.len()).rev() {
         word[step] = (state / 16) as u8;
-        state = wide(predecessors[step][state]);
+        state = usize::from(predecessors[step][state]);
     }
 }
 

@@ -5,21 +5,13 @@ ghost use Rattle.std.specs.Float.{nan};
 ghost use Rattle.soft.specs.Reliability.{bit_cost};
 ghost use Rattle.soft.specs.Step.{Advanced, Branched, OutputsTo, PairCosts, Selected, chosen_of, lesser_of, stored_of};
 
-use crate::reliability::{abs, infinity};
-use bits::wide;
-use coding::dcch::{G0, G1};
-use coding::register::parity;
-
-// The path metrics after a step, and a predecessor byte for each state.
-#[derive(Clone, Copy)]
-pub struct Column {
-    pub metrics: [f64; 32],
-    pub predecessors: [u8; 32],
-}
+use coding::Code;
+use coding::codes::Dcch;
+use search::Column;
 
 // The branch metrics from the states 2 n, with a zero and with a one. Flipping the oldest input complements both outputs as
 // flipping the newest does, so those from 2 n + 1 are the same two, exchanged.
-#[derive(Clone, Copy)]
+#[derive(Clone, Copy, Debug, PartialEq)]
 pub struct Branches {
     pub zeros: [f64; 16],
     pub ones: [f64; 16],
@@ -30,7 +22,7 @@ fn bit_cost(bit: bool, reliability: f64) -> f64
     ensures { result ≡ bit_cost bit reliability }
 {
     if bit != (reliability < 0.0) {
-        abs(reliability)
+        reliability.abs()
     } else {
         0.0
     }
@@ -53,7 +45,8 @@ pub fn output_pairs() -> [u8; 16]
 {
     let mut pairs = [0u8; 16];
     for n in 0..16u8 {
-        pairs[n as usize] = parity(n * 2, G0) * 2 + parity(n * 2, G1);
+        let output = Dcch::transition(n * 2, 0).output;
+        pairs[usize::from(n)] = output[0] * 2 + output[1];
     }
     pairs
 }
@@ -66,14 +59,14 @@ pub fn branch_metrics(pairs: [u8; 16], first: f64, second: f64) -> Branches
     let mut zeros = [0.0f64; 16];
     let mut ones = [0.0f64; 16];
     for n in 0..16 {
-        let pair = wide(pairs[n]);
+        let pair = usize::from(pairs[n]);
         zeros[n] = costs[pair];
         ones[n] = costs[3 - pair];
     }
     Branches { zeros, ones }
 }
 
-// The lesser of the candidates through a state's two predecessors.
+// The lesser of the candidates through a state's two predecessors. (Not `min`, which may give either of two zeros.)
 fn lesser(lower: f64, upper: f64) -> f64
     ensures { result ≡ lesser_of lower upper }
 {
@@ -89,9 +82,11 @@ fn predecessor(lower: f64, upper: f64, from: u8) -> u8
 }
 
 // Add, compare, select.
-fn select(metrics: [f64; 32], zeros: [f64; 16], ones: [f64; 16]) -> Column
-    ensures { Selected metrics zeros ones result }
+fn select(metrics: [f64; 32], branch: Branches) -> Column<[f64; 32]>
+    ensures { Selected metrics branch.zeros branch.ones result }
 {
+    let zeros = branch.zeros;
+    let ones = branch.ones;
     let mut next = [0.0f64; 32];
     let mut predecessors = [0u8; 32];
     for n in 0..16 {
@@ -117,8 +112,11 @@ fn select(metrics: [f64; 32], zeros: [f64; 16], ones: [f64; 16]) -> Column
 fn stored(metric: f64, predecessor: u8) -> u8
     ensures { result ≡ stored_of metric predecessor }
 {
-    let top = infinity();
-    if metric == top { 0 } else { predecessor }
+    if metric == f64::INFINITY {
+        0
+    } else {
+        predecessor
+    }
 }
 
 // The bytes of all states, in a loop of their own, which is vectorised.
@@ -133,15 +131,15 @@ fn stored_row(metrics: [f64; 32], predecessors: [u8; 32]) -> [u8; 32]
 }
 
 // One step: the path metrics after it, and what is stored of each state.
-pub fn advance(metrics: [f64; 32], zeros: [f64; 16], ones: [f64; 16]) -> Column
-    ensures { Advanced metrics zeros ones result }
+pub fn advance(metrics: [f64; 32], branch: Branches) -> Column<[f64; 32]>
+    ensures { Advanced metrics branch.zeros branch.ones result }
 {
-    let selected = select(metrics, zeros, ones);
+    let selected = select(metrics, branch);
     let next = selected.metrics;
     let chosen = selected.predecessors;
-    let row = stored_row(next, chosen);
+    let predecessors = stored_row(next, chosen);
     Column {
         metrics: next,
-        predecessors: row,
+        predecessors,
     }
 }

@@ -1,13 +1,11 @@
 -- What is found among the words of A and among those of B is found among both: the better of the two answers. Assumes nothing.
-use mathlib.Core.Path.{◌≡◌, refl, sym, ap, ap₂, subst, ◌∙◌}
+use mathlib.Core.Path.{◌≡◌, refl, sym, subst, ◌∙◌}
 use mathlib.Core.Bool.{Bool, true}
-use mathlib.Core.List.{List, ◌++◌, append-nil}
+use mathlib.Core.List.{List}
 use mathlib.Core.Logic.{◌⊎◌, inl, inr}
 use Prim.Native.Nat.{ℕ, ◌<◌, ◌≤◌}
 use native.Mathlib.Omega.{arith}
 use native.Mathlib.Decide.{dec_lt}
-use lib.ListN.{length, take, drop}
-use lib.Seq.{take-length, drop-length}
 use borrow.Author.Tests.{lt-ltb, le-ltb}
 use Rattle.trellis.specs.Search.{Nearest, Ambiguous, Found}
 use Rattle.trellis.specs.declared.Outcome.{Outcome}
@@ -98,13 +96,9 @@ module _ {A B C : List Bool → Type 0} {weight : List Bool → ℕ} (b : Both A
 -- ---- the ways out of `better`
 module _ (best run : Outcome) (word inputs : List ℕ) where
   -- the word was copied over the inputs
-  pub run_less : (copied : List ℕ) → run.metric < best.metric → length word ≡ length inputs → copied ≡ take (length word) word ++ drop (length word) inputs
-      → (run ≡ better_of best run) × (copied ≡ kept_of best run word inputs)
+  pub run_less : (copied : List ℕ) → run.metric < best.metric → copied ≡ word → (run ≡ better_of best run) × (copied ≡ kept_of best run word inputs)
   unfolding better_of kept_of
-  run_less copied h l e =
-      let whole : copied ≡ word =
-      e ∙ ap₂ (λ (a b : List ℕ). a ++ b) (take-length word) (ap (λ (n : ℕ). drop n inputs) l ∙ drop-length inputs) ∙ append-nil word in
-      (rw (lt-ltb run.metric best.metric h), rw (lt-ltb run.metric best.metric h) whole)
+  run_less copied h e = (rw (lt-ltb run.metric best.metric h), rw (lt-ltb run.metric best.metric h) e)
 
   pub best_less : best.metric < run.metric → (best ≡ better_of best run) × (inputs ≡ kept_of best run word inputs)
   unfolding better_of kept_of

@@ -11,7 +11,7 @@ ghost use Rattle.trellis.specs.Words.{OfLength};
 ghost use Rattle.tailbiting.specs.TailBiting.{tail_weight};
 ghost use Rattle.bits.specs.Observed.{all_erasable};
 
-use crate::starts::search;
+use search::Received;
 use trellis::Outcome;
 
 // Writes a nearest run of 65 inputs that ends in the memory where it starts, over the observed bits; a byte 2 is unobserved.
@@ -22,5 +22,9 @@ pub fn tail_biting(received: &[u8], inputs: &mut [u8]) -> Outcome
     let mut rows = [[0u16; 64]; 65];
     rows::fill_rows(received, &mut rows);
     let symbols = rows::step_numbers();
-    search(&rows, &symbols, inputs)
+    let received = Received {
+        rows: &rows,
+        symbols: &symbols,
+    };
+    starts::search(received, inputs)
 }

@@ -4,19 +4,19 @@ use mathlib.Core.Path.{◌≡◌, refl, sym, ap, ap₂, ◌∙◌}
 use mathlib.Core.Bool.{Bool}
 use mathlib.Core.List.{List, [], ◌∷◌, ◌++◌, append-nil, reverse, reverse-cons, reverse-reverse}
 use Prim.Native.Nat.{ℕ, ◌+◌, ◌*◌, ◌<◌}
-use lib.Dec.{T}
 use lib.ListN.{length, take, drop, length-reverse}
 use lib.Seq.{take_at}
 use Rattle.bits.specs.Bits.{tally}
 use Rattle.bits.proofs.Tally.{tally-append}
 use Rattle.coding.specs.Codes.{outputs, coded}
-use Rattle.coding.proofs.Coded.{coded-append, coded-length, coded_newest, short}
+use Rattle.coding.specs.Laws.{AtMostSix}
+use Rattle.coding.proofs.Coded.{coded-append, coded-length, coded_newest}
 use Rattle.trellis.specs.Numbering.{Numbering}
 use Rattle.trellis.specs.Words.{state_after, word_metric, branch_of}
 use Rattle.trellis.proofs.Registers.{Register}
 use Rattle.trellis.proofs.PathWord as path
 
-module _ (N : Numbering) (reg : Register N) (code : List (List Bool)) (six : T (short code)) where
+module _ (N : Numbering) (reg : Register N) (code : List (List Bool)) (six : AtMostSix code) where
   -- a state holds the newest five inputs
   newest_five : (s : ℕ) (u : List Bool) → s < 32 → take 5 (u ++ N.memory s) ≡ take 5 (N.memory (state_after N s u))
   newest_five s u h =

@@ -2,7 +2,7 @@
 #![tactic(auto)]
 
 // The least metric, and whether another word has it too.
-#[derive(Clone, Copy)]
+#[derive(Clone, Copy, Debug, PartialEq, Eq)]
 pub struct Outcome {
     pub metric: u16,
     pub tie: bool,

@@ -1,22 +1,26 @@
 -- The rows and the symbols give the code's costs by place, so that a word's metric is its weight. Assumes nothing.
-use mathlib.Core.Path.{◌≡◌, sym, ap, ap₂, ◌∙◌}
+use mathlib.Core.Path.{◌≡◌, refl, sym, ap, ap₂, ◌∙◌}
 use mathlib.Core.Bool.{Bool, true, false}
-use mathlib.Core.List.{List, ◌∷◌}
+use mathlib.Core.List.{List, [], ◌∷◌}
 use Prim.Native.Nat.{ℕ, ◌+◌, ◌*◌, ◌/◌, ◌%◌, ◌<◌, ◌≤◌}
 use native.Mathlib.Omega.{arith}
 use lib.ListN.{length, get_or, drop, length-map, get_or-map}
 use Rattle.bits.specs.Bits.{bit, bits, disagreement, tally, all_binary}
+use Rattle.bits.specs.Observed.{erased_differ}
+use Rattle.bits.proofs.Erased.{erased_seen}
 use Rattle.bits.proofs.Binary.{differ_le, binary_at}
 use Rattle.bits.proofs.Tally.{drop_two}
 use Rattle.coding.specs.Codes.{dcch}
+use Rattle.coding.specs.Laws.{dcch_laws}
 use Rattle.coding.specs.Registers.{memory_low}
 use Rattle.search.specs.Forward.{branch_by, Rows}
 use Rattle.trellis.specs.Numbering.{newest_low}
-use Rattle.search.specs.Row.{output_at, taps}
+use Rattle.search.specs.Row as place
+use Rattle.search.specs.Row.{output_at, taps, OutputsOf}
 use Rattle.trellis.specs.Words.{word_metric}
-use Rattle.search.proofs.ByPlace.{RowAt, metric_coded, outputs_at}
+use Rattle.search.proofs.ByPlace.{RowAt, metric_coded, outputs_at, numbers, distance_coded}
 use Rattle.viterbi.specs.Hard.{weight_from}
-use Rattle.viterbi.specs.Rows.{distance_at, PairsTo, pair_of, SymbolsTo}
+use Rattle.viterbi.specs.Rows.{distance_at, DistancesTo, PairsTo, pair_of, SymbolsTo}
 
 -- ---- one place
 pub distance_le : (place : ℕ) (first second : Bool) → distance_at place first second ≤ 2
@@ -25,6 +29,25 @@ distance_le place first second = omega (arith, differ_le (output_at (taps dcch 0
 distance_tally : (place : ℕ) (first second : Bool) (r : List Bool) → distance_at place first second ≡ tally disagreement (outputs_at dcch place) (first ∷ second ∷ r)
 unfolding tally
 distance_tally place first second r = omega arith
+
+-- a received bit is observed
+erased_binary : (sent : Bool) (received : ℕ) → received < 2 → erased_differ sent received ≡ disagreement sent (bit received)
+erased_binary sent received h = sym (erased_seen sent received _ (λ e. omega arith) refl)
+
+-- the distances of the code's outputs from a pair
+pub pair_distances : {outputs : List (List ℕ)} (row : List ℕ) {first second : ℕ} → OutputsOf (numbers dcch) outputs → first < 2 → second < 2
+    → place.DistancesTo outputs (first ∷ second ∷ []) row 64 → DistancesTo (bit first) (bit second) row 64
+unfolding tally
+pair_distances {outputs} row {first} {second} o h g d place low =
+    let one : Bool = output_at (taps dcch 0) place in
+    let other : Bool = output_at (taps dcch 1) place in
+    omega (
+      arith,
+      d place low,
+      distance_coded dcch outputs o (first ∷ second ∷ []) place low,
+      erased_binary one first h,
+      erased_binary other second g,
+    )
 
 -- ---- the rows
 module _ (coded symbols : List ℕ) (rows : List (List ℕ)) (n : ℕ) (four : length rows ≡ 4) (size : length symbols ≡ n) (twice : length coded ≡ n * 2)
@@ -52,7 +75,7 @@ module _ (coded symbols : List ℕ) (rows : List (List ℕ)) (n : ℕ) (four : l
 
   pub metric_weight : (s : ℕ) (u : List Bool) → s < 32 → length u ≤ n → word_metric newest_low (branch_by rows symbols) s u ≡ weight_from (memory_low s) (bits coded) u
   unfolding weight_from
-  metric_weight = metric_coded dcch disagreement (bits coded) rows symbols tt n row
+  metric_weight = metric_coded dcch disagreement (bits coded) rows symbols dcch_laws.six n row
 
   -- no branch metric is above two
   pub small_rows : Rows rows symbols

@@ -5,6 +5,3 @@ use Rattle.soft.proofs.traceback.Given as goal
 
 abbrev pub invariant-loop-step : goal.invariant-loop-step
 invariant-loop-step l = Tracing (rows_at l.predecessors) l.initial.word l.word l.state l.step
-
-abbrev pub decreases-loop-step : goal.decreases-loop-step
-decreases-loop-step l = l.step

@@ -1,12 +1,16 @@
 -- `tailbiting::tail_biting` meets its contract: the metric of the rows is the weight. Assumes nothing.
+use Rattle.std.proofs.Common.{arith}
 use Rattle.tailbiting.proofs.Branches.{small_rows, found_weight}
 use Rattle.tailbiting.proofs.tail_biting.Goals as goal
 
-pub search-requires : goal.search-requires
-search-requires c =
+pub invariant_of-received : goal.invariant_of-received
+invariant_of-received c =
     let filled = c.fill_rows in
     let numbered = c.step_numbers-symbols in
-    (numbered.ensures.0, small_rows c.args.received.now numbered.result filled.new.rows filled.auto.rows numbered.ensures.0 c.requires.0 filled.ensures numbered.ensures.1, c.requires.1)
+    record {
+      small = small_rows c.args.received.now numbered.result filled.new.rows filled.auto.rows numbered.ensures.0 c.requires.0 filled.ensures numbered.ensures.1;
+      short = omega arith;
+    }
 
 pub returns : goal.returns
 returns c =

@@ -1,5 +1,5 @@
 -- `viterbi::pair_rows` meets its contract: the rows passed are those of their pairs. Assumes nothing.
-use Prim.Native.Nat.{◌/◌, ◌%◌, ◌-◌}
+use Prim.Native.Nat.{◌/◌, ◌%◌}
 use mathlib.Core.List.{[]}
 use Rattle.bits.specs.Bits.{bit}
 use Rattle.bits.proofs.Filled.{Filling}
@@ -8,6 +8,3 @@ use Rattle.viterbi.proofs.pair_rows.Given as goal
 
 abbrev pub invariant-loop-pair : goal.invariant-loop-pair
 invariant-loop-pair l = Filling (λ i row. DistancesTo (bit (i / 2)) (bit (i % 2)) row 64) [] 4 l.rows l.pair
-
-abbrev pub decreases-loop-pair : goal.decreases-loop-pair
-decreases-loop-pair l = 4 - l.pair

@@ -1,13 +1,8 @@
--- `search::row::outputs` meets its contract: the places passed hold the output bits. Assumes nothing.
-use mathlib.Core.Path.{◌≡◌}
-use Prim.Native.Nat.{◌-◌}
+-- `search::row::outputs` meets its contract: the generators passed have their outputs. Assumes nothing.
+use Rattle.std.proofs.Common.{[], get_or, length}
 use Rattle.bits.proofs.Filled.{Filling}
-use Rattle.bits.specs.Bits.{byte}
-use Rattle.search.specs.Row.{output_at}
+use Rattle.search.specs.Row.{OutputsTo}
 use Rattle.search.proofs.row.outputs.Given as goal
 
-abbrev pub invariant-loop-place : goal.invariant-loop-place
-invariant-loop-place l = Filling (λ i x. x ≡ byte (output_at l.taps i)) 0 64 l.output l.place
-
-abbrev pub decreases-loop-place : goal.decreases-loop-place
-decreases-loop-place l = 64 - l.place
+abbrev pub invariant-loop-i : goal.invariant-loop-i
+invariant-loop-i g l = Filling (λ i output. OutputsTo (get_or l.generators i 0) output 64) [] (length l.generators) l.outputs l.i

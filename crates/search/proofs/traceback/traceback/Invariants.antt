@@ -4,6 +4,3 @@ use Rattle.search.proofs.traceback.traceback.Given as goal
 
 abbrev pub invariant-loop-step : goal.invariant-loop-step
 invariant-loop-step l = Tracing l.predecessors l.since l.end l.initial.bits l.bits l.state l.step l.tie
-
-abbrev pub decreases-loop-step : goal.decreases-loop-step
-decreases-loop-step l = l.step

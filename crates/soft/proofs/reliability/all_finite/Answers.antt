@@ -1,16 +1,12 @@
 -- `soft::reliability::all_finite` meets its contract: the values passed were tested. Assumes nothing.
-use mathlib.Core.Path.{refl}
-use native.Mathlib.Omega.{arith}
-use lib.Ieee.{nan}
-use Rattle.bits.proofs.Passing.{testing_none, testing_more, testing_done}
-use Rattle.soft.proofs.Tests.{finite_tests}
+use Rattle.std.proofs.Common.{arith, refl, ◌∙◌}
+use Rattle.std.specs.Float.{nan}
+use Rattle.bits.proofs.Passing.{testing_more, testing_done}
+use Rattle.soft.proofs.Tests.{finite_tests, finite_same}
 use Rattle.soft.proofs.reliability.all_finite.Goals as goal
 
-pub loop-i-init : goal.loop-i-init
-loop-i-init c = (refl, testing_none _)
-
-pub loop-i-preserved : goal.loop-i-preserved
-loop-i-preserved c = (refl, testing_more finite_tests c.loop-i.invariant.1 nan (omega arith) c.is_finite.ensures c.both-finite.ensures)
+pub loop-x-preserved : goal.loop-x-preserved
+loop-x-preserved c = testing_more finite_tests c.loop-x.invariant nan (omega arith) (c.is_finite-finite.ensures.value ∙ finite_same _) refl
 
 pub returns : goal.returns
-returns c = testing_done finite_tests c.loop-i.invariant.1 (omega arith)
+returns c = testing_done finite_tests c.loop-x.invariant (omega arith)

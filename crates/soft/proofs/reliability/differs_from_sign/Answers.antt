@@ -1,15 +1,14 @@
 -- `soft::reliability::differs_from_sign` meets its contract. Assumes nothing.
-use native.Mathlib.Omega.{arith}
-use lib.Ieee.{of_bits}
-use Rattle.soft.specs.Reliability.{negative}
+use Rattle.std.proofs.Common.{◌∙◌, arith}
+use Rattle.std.specs.Float.Ieee.{of_bits}
 use Rattle.bits.specs.Bits.{bit}
-use Rattle.soft.proofs.Signs.{differ_true, differ_false}
+use Rattle.bits.proofs.Binary.{differ_le}
+use Rattle.soft.specs.Reliability.{negative}
+use Rattle.soft.proofs.Signs.{differ_byte}
 use Rattle.soft.proofs.reliability.differs_from_sign.Goals as goal
 
-pub returns-then-sent-value : goal.returns-then-sent-value
+pub returns : goal.returns
 unfolding negative of_bits
-returns-then-sent-value c = (differ_true (bit c.args.sent) (negative c.args.value) c.if-sent-value.true, omega arith)
-
-pub returns-else-sent-value : goal.returns-else-sent-value
-unfolding negative of_bits
-returns-else-sent-value c = (differ_false (bit c.args.sent) (negative c.args.value) c.if-sent-value.false, omega arith)
+returns c =
+    let e = c.from.ensures ∙ differ_byte (bit c.args.sent) (negative c.args.value) in
+    (e, omega (arith, differ_le (bit c.args.sent) (negative c.args.value), e))

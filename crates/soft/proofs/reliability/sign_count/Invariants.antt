@@ -1,8 +1,6 @@
 -- `soft::reliability::sign_count`: the bits passed that differ from the signs are counted. Assumes nothing.
-use mathlib.Core.Path.{◌≡◌}
-use lib.ListN.{length}
 use Rattle.soft.proofs.Signs.{Counting}
 use Rattle.soft.proofs.reliability.sign_count.Given as goal
 
 abbrev pub invariant-loop-i : goal.invariant-loop-i
-invariant-loop-i l = (l.i-end ≡ length l.coded) × Counting l.coded l.values l.n l.i
+invariant-loop-i l = Counting l.coded l.values l.n l.i

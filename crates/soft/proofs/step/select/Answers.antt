@@ -1,11 +1,7 @@
 -- `soft::step::select` meets its contract: the butterflies passed fill two states each. Assumes nothing.
-use mathlib.Core.Path.{refl}
-use native.Mathlib.Omega.{arith}
-use Rattle.soft.proofs.Butterflies.{filled_none, filled_more, filled_all}
+use Rattle.std.proofs.Common.{arith}
+use Rattle.soft.proofs.Butterflies.{filled_more, filled_all}
 use Rattle.soft.proofs.step.select.Goals as goal
-
-pub loop-n-init : goal.loop-n-init
-loop-n-init c = filled_none _ _ _ _ _ refl refl
 
 pub loop-n-preserved : goal.loop-n-preserved
 loop-n-preserved c =

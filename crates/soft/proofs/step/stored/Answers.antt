@@ -1,11 +1,12 @@
 -- `soft::step::stored` meets its contract. Assumes nothing.
+use Rattle.std.specs.Float.Ieee.{of_bits}
 use Rattle.soft.specs.Step.{stored_of}
 use Rattle.soft.proofs.step.stored.Goals as goal
 
-pub returns-then-metric-top : goal.returns-then-metric-top
-unfolding stored_of
-returns-then-metric-top c = rw (rw c.infinity-top.ensures at c.if-metric-top.true)
+pub returns-then-metric : goal.returns-then-metric
+unfolding stored_of of_bits
+returns-then-metric c = rw c.if-metric.true
 
-pub returns-else-metric-top : goal.returns-else-metric-top
-unfolding stored_of
-returns-else-metric-top c = rw (rw c.infinity-top.ensures at c.if-metric-top.false)
+pub returns-else-metric : goal.returns-else-metric
+unfolding stored_of of_bits
+returns-else-metric c = rw c.if-metric.false

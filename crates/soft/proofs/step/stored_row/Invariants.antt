@@ -1,6 +1,5 @@
 -- `soft::step::stored_row` meets its contract: the bytes of the states passed are right. Assumes nothing.
 use mathlib.Core.Path.{◌≡◌}
-use Prim.Native.Nat.{◌-◌}
 use lib.ListN.{get_or}
 use lib.Ieee.{nan}
 use Rattle.bits.proofs.Filled.{Filling}
@@ -9,6 +8,3 @@ use Rattle.soft.proofs.step.stored_row.Given as goal
 
 abbrev pub invariant-loop-t : goal.invariant-loop-t
 invariant-loop-t l = Filling (λ i x. x ≡ stored_of (get_or l.metrics i nan) (get_or l.predecessors i 0)) 0 32 l.row l.t
-
-abbrev pub decreases-loop-t : goal.decreases-loop-t
-decreases-loop-t l = 32 - l.t
