@@ -1,15 +1,14 @@
 -- A frame comes back from the slots that carry it, in each of the three modes. Assumes nothing.
 use mathlib.Core.Path.{◌≡◌, refl, sym, ap, ◌∙◌}
 use mathlib.Core.List.{List, ◌++◌}
-use Prim.Native.Nat.{ℕ, zero, suc, ◌+◌, ◌-◌, ◌<◌}
+use Prim.Native.Nat.{ℕ, zero, suc, ◌-◌, ◌<◌}
 use native.Mathlib.Omega.{arith}
 use lib.ListN.{length, take, drop}
 use lib.Seq.{take_at, drop_at, drop-drop, take_all}
-use Rattle.bits.specs.Calls.{WriteCall, wrote_answer}
-use Rattle.bits.specs.Refusals.{accepted}
-use Rattle.bits.specs.declared.arguments.Arguments.{Arguments}
-use Rattle.bits.specs.declared.arguments.Arguments.TheVariants.{Passed, Refused}
-use Rattle.bits.specs.declared.Wrote.{Wrote}
+use Rattle.std.specs.Prelude.{Ok, Err}
+use Rattle.bits.specs.Arguments.{Arguments}
+use Rattle.bits.specs.Calls.{WriteCall}
+use Rattle.bits.proofs.Refusing.{never_both}
 use Rattle.interleaving.proofs.RoundTrip.{collected-carried}
 use Rattle.acelp_interleaver.specs.Wire.{place_at, wire_of, slots_of, age_of, third, interleaved, deinterleaved, InterleavingCall, DeinterleavingCall}
 use Rattle.acelp_interleaver.specs.declared.Interleaving.{Interleaving}
@@ -73,14 +72,14 @@ acelp_slots_round_trip {A} d mode frame slot lf ls carry =
     same (suc (suc (suc k))) h = absurd (omega arith)
 
 -- ---- the calls
-done_written : (arguments : Arguments) {result buffer₀ buffer : List ℕ} {r : Wrote} → WriteCall arguments result buffer₀ buffer r → wrote_answer r ≡ accepted tt → buffer ≡ result
-done_written Passed w e = (w.done refl).1
-done_written (Refused why) w e = let d = (w.declined why refl).0 in let z : ◌≡◌ {A = ℕ} 0 1 = cc in absurd (omega arith)
+done_written : (arguments : Arguments) {result buffer₀ buffer : List ℕ} {r : Arguments} → WriteCall arguments result buffer₀ buffer r → r ≡ Ok tt → buffer ≡ result
+done_written (Ok tt) w e = (w.done refl).1
+done_written (Err why) w e = never_both e (w.declined why refl).0
 
 -- where each call is done
-pub acelp_slot_calls_round_trip : (mode : Interleaving) (frame slot before : ℕ → List ℕ) (r : ℕ → Wrote) (frame₀ frame' : List ℕ) (s : Wrote)
+pub acelp_slot_calls_round_trip : (mode : Interleaving) (frame slot before : ℕ → List ℕ) (r : ℕ → Arguments) (frame₀ frame' : List ℕ) (s : Arguments)
     → ((i : ℕ) → length (frame i) ≡ 260) → ((k : ℕ) → length (slot k) ≡ 260)
-    → ((k : ℕ) → k < slots_of mode → InterleavingCall (three frame k) mode (before k) (slot k) (r k) × (wrote_answer (r k) ≡ accepted tt))
-    → DeinterleavingCall (three slot 0) mode frame₀ frame' s → wrote_answer s ≡ accepted tt → frame' ≡ frame 2
+    → ((k : ℕ) → k < slots_of mode → InterleavingCall (three frame k) mode (before k) (slot k) (r k) × (r k ≡ Ok tt))
+    → DeinterleavingCall (three slot 0) mode frame₀ frame' s → s ≡ Ok tt → frame' ≡ frame 2
 acelp_slot_calls_round_trip mode frame slot before r frame₀ frame' s lf ls calls back e =
     done_written _ back e ∙ acelp_slots_round_trip 0 mode frame slot lf ls (λ k h. done_written _ (calls k h).0 (calls k h).1)

@@ -1,10 +1,9 @@
 -- The slot order (TIA/EIA-136-410 Table 4.3): a slot carries 26 rows of ten bits, of one frame or of two or three successive ones. Frames and slots oldest first.
-use Rattle.std.specs.Prelude.{List, [], ◌∷◌, ℕ, ◌-◌, ◌*◌, ◌/◌, ◌%◌, length, get_or, take, drop}
+use Rattle.std.specs.Prelude.{List, [], ◌∷◌, ℕ, ◌-◌, ◌*◌, ◌%◌, length, get_or, take, drop}
 use Rattle.bits.specs.Places.{listed, place_in}
-use Rattle.bits.specs.Arguments.{bits_and_room}
+use Rattle.bits.specs.Arguments.{Arguments, bits_and_room}
 use Rattle.bits.specs.Calls.{WriteCall}
-use Rattle.bits.specs.declared.arguments.Arguments.{Arguments}
-use Rattle.bits.specs.declared.Wrote.{Wrote}
+use Rattle.interleaving.specs.Orders.{at_wire}
 use Rattle.interleaving.specs.Slots.{carried, collected}
 use Rattle.acelp_interleaver.specs.declared.Interleaving.{Interleaving}
 use Rattle.acelp_interleaver.specs.declared.Interleaving.TheVariants.{One, Two, Three}
@@ -39,8 +38,13 @@ table =
     (23 ∷ 48 ∷ 73 ∷ 98 ∷ 123 ∷ 148 ∷ 173 ∷ 198 ∷ 238 ∷ 253 ∷ []) ∷
     (24 ∷ 49 ∷ 74 ∷ 99 ∷ 124 ∷ 149 ∷ 174 ∷ 199 ∷ 252 ∷ 251 ∷ []) ∷ []
 
+-- the place of a row and column
+abbrev pub place_of : ℕ → ℕ → ℕ
+place_of row column = get_or (get_or table row []) column 0
+
+-- the place that a bit of a slot carries
 abbrev pub place_at : ℕ → ℕ
-place_at wire = get_or (get_or table (wire / 10) []) (wire % 10) 0
+place_at wire = at_wire place_of wire
 
 -- the bit of a slot that carries a place
 unfoldable pub wire_of : ℕ → ℕ
@@ -72,8 +76,8 @@ deinterleaved d slots mode = collected d wire_of (λ (row : ℕ). third slots (a
 abbrev pub three_arguments : List ℕ → ℕ → Arguments
 three_arguments l room = bits_and_room 780 l 260 room
 
-abbrev pub InterleavingCall : List ℕ → Interleaving → List ℕ → List ℕ → Wrote → Type 0
+abbrev pub InterleavingCall : List ℕ → Interleaving → List ℕ → List ℕ → Arguments → Type 0
 InterleavingCall history mode slot₀ slot r = WriteCall (three_arguments history (length slot₀)) (interleaved 0 history mode) slot₀ slot r
 
-abbrev pub DeinterleavingCall : List ℕ → Interleaving → List ℕ → List ℕ → Wrote → Type 0
+abbrev pub DeinterleavingCall : List ℕ → Interleaving → List ℕ → List ℕ → Arguments → Type 0
 DeinterleavingCall slots mode frame₀ frame r = WriteCall (three_arguments slots (length frame₀)) (deinterleaved 0 slots mode) frame₀ frame r

@@ -2,22 +2,38 @@
 // Ported from 136-bts, acelp_cc1.rs, and changed (see NOTICE).
 #![tactic(auto)]
 
-ghost use Rattle.std.specs.Prelude.{◌≡◌, ◌-◌, ◌<◌, length};
-ghost use Rattle.acelp_interleaver.specs.Wire.{DeinterleavingCall, InterleavingCall, age_of, deinterleaved, interleaved, place_at, table};
+ghost use Rattle.std.specs.Prelude.{◌≡◌, ◌<◌, length};
+ghost use Rattle.acelp_interleaver.specs.Laws.{order_laws};
+ghost use Rattle.acelp_interleaver.specs.Wire.{DeinterleavingCall, InterleavingCall, deinterleaved, interleaved, place_of, slots_of, third, wire_of};
 
-use bits::Wrote;
-use bits::arguments::{Arguments, bits_and_room};
+use bits::Refusal;
+use bits::arguments::bits_and_room;
+use interleaving::{SlotOrder, carry_rows, collect_rows};
 
 // Over how many slots a frame is spread.
-#[derive(Clone, Copy)]
+#[derive(Clone, Copy, Debug, PartialEq, Eq)]
 pub enum Interleaving {
     One,
     Two,
     Three,
 }
 
+impl Interleaving {
+    fn slots(self) -> usize
+        ensures { result ≡ slots_of self }
+    {
+        match self {
+            Interleaving::One => 1,
+            Interleaving::Two => 2,
+            Interleaving::Three => 3,
+        }
+    }
+}
+
+const CHANNEL_BITS: usize = 260;
+
 // TIA/EIA-136-410 Table 4.3, row-major wire order to the frame's places.
-const INTERLEAVER: [[u16; 10]; 26] = [
+static INTERLEAVER: [[u16; 10]; 26] = [
     [220, 219, 218, 233, 232, 231, 211, 210, 209, 208],
     [0, 25, 50, 75, 100, 125, 150, 175, 200, 237],
     [1, 26, 51, 76, 101, 126, 151, 176, 201, 224],
@@ -46,92 +62,66 @@ const INTERLEAVER: [[u16; 10]; 26] = [
     [24, 49, 74, 99, 124, 149, 174, 199, 252, 251],
 ];
 
-// The table, read once for a whole slot.
-fn interleaver() -> [[u16; 10]; 26]
-    ensures { result ≡ table }
-{
-    INTERLEAVER
-}
+struct AcelpOrder;
 
-// How old the frame of a row is; the newest has the age 0.
-fn age(mode: Interleaving, row: usize) -> usize
-    ensures { (result ≡ age_of mode row) × (result < 3) }
-{
-    match mode {
-        Interleaving::One => 0,
-        Interleaving::Two => 1 - row % 2,
-        Interleaving::Three => 2 - row % 3,
+impl SlotOrder for AcelpOrder {
+    ghost place_of = { place_of };
+
+    ghost wire_of = { wire_of };
+
+    ghost laws = { order_laws };
+
+    fn place(row: usize, column: usize) -> usize {
+        usize::from(INTERLEAVER[row][column])
     }
 }
 
-// The one of three frames, oldest first, that a row of a slot is of.
-fn frame_of(mode: Interleaving, row: usize) -> usize
-    ensures { (result ≡ 2 - age_of mode row) × (result < 3) }
+// One of three frames or slots.
+fn third(all: &[u8], k: usize) -> &[u8]
+    requires { (length all.now ≡ 780) × (k < 3) }
+    ensures { (result.now ≡ third all.now k) × (length result.now ≡ 260) }
 {
-    2 - age(mode, row)
+    &all[CHANNEL_BITS * k..CHANNEL_BITS * (k + 1)]
 }
 
-// The one of three slots, oldest first, that carries a row of a frame.
-fn slot_of(mode: Interleaving, row: usize) -> usize
-    ensures { (result ≡ age_of mode row) × (result < 3) }
-{
-    age(mode, row)
-}
-
-// The place in the frame of the bit that a bit of the slot carries.
-fn place(places: &[[u16; 10]], wire: usize) -> usize
-    requires { (places.now ≡ table) × (wire < 260) }
-    ensures { (result ≡ place_at wire) × (result < 260) }
-{
-    places[wire / 10][wire % 10] as usize
-}
-
-// Writes the slot of three frames.
-fn gather(places: &[[u16; 10]], history: &[u8], mode: Interleaving, slot: &mut [u8])
-    requires { (places.now ≡ table) × (length history.now ≡ 780) × (length slot.old ≡ 260) }
+// Writes the slot of a history of three frames.
+fn carry(history: &[u8], mode: Interleaving, slot: &mut [u8])
+    requires { (length history.now ≡ 780) × (length slot.old ≡ 260) }
     ensures { slot.new ≡ interleaved 0 history.now mode }
 {
-    for wire in 0..260usize {
-        let frame = frame_of(mode, wire / 10);
-        let from = place(places, wire);
-        slot[wire] = history[frame * 260 + from];
+    let slots = mode.slots();
+    for first in 0..slots {
+        let frame = 3 - slots + first;
+        carry_rows::<AcelpOrder>(first, slots, third(history, frame), slot);
     }
 }
 
 // Writes the frame whose first rows the oldest of three slots carries.
-fn scatter(places: &[[u16; 10]], slots: &[u8], mode: Interleaving, frame: &mut [u8])
-    requires { (places.now ≡ table) × (length slots.now ≡ 780) × (length frame.old ≡ 260) }
+fn collect(slots: &[u8], mode: Interleaving, frame: &mut [u8])
+    requires { (length slots.now ≡ 780) × (length frame.old ≡ 260) }
     ensures { frame.new ≡ deinterleaved 0 slots.now mode }
 {
-    for wire in 0..260usize {
-        let slot = slot_of(mode, wire / 10);
-        let to = place(places, wire);
-        frame[to] = slots[slot * 260 + wire];
+    let spread = mode.slots();
+    for first in 0..spread {
+        let slot = spread - 1 - first;
+        collect_rows::<AcelpOrder>(first, spread, third(slots, slot), frame);
     }
 }
 
 // Writes the slot of a history of three frames, oldest first.
-pub fn interleave(history: &[u8], mode: Interleaving, slot: &mut [u8]) -> Wrote
+pub fn interleave(history: &[u8], mode: Interleaving, slot: &mut [u8]) -> Result<(), Refusal>
     ensures { InterleavingCall history.now mode slot.old slot.new result }
 {
-    let ready = bits_and_room(780, history, 260, slot.len());
-    if let Arguments::Refused(why) = ready {
-        return Wrote::Refused(why);
-    }
-    let places = interleaver();
-    gather(&places, history, mode, slot);
-    Wrote::Done
+    bits_and_room(780, history, 260, slot.len())?;
+    carry(history, mode, slot);
+    Ok(())
 }
 
 // Writes the frame of three slots, oldest first.
-pub fn deinterleave(slots: &[u8], mode: Interleaving, frame: &mut [u8]) -> Wrote
+pub fn deinterleave(slots: &[u8], mode: Interleaving, frame: &mut [u8]) -> Result<(), Refusal>
     ensures { DeinterleavingCall slots.now mode frame.old frame.new result }
 {
-    let ready = bits_and_room(780, slots, 260, frame.len());
-    if let Arguments::Refused(why) = ready {
-        return Wrote::Refused(why);
-    }
-    let places = interleaver();
-    scatter(&places, slots, mode, frame);
-    Wrote::Done
+    bits_and_room(780, slots, 260, frame.len())?;
+    collect(slots, mode, frame);
+    Ok(())
 }

@@ -1,88 +1,187 @@
--- The loops that pass the wires in order, at each wire its cell: what the wires passed hold, or what their cells hold.
+-- The loops that pass the wires in order, at each wire its cell: what is left of the order, and what the wires passed hold, or what their cells hold.
 -- A cell that was written is not written again, since each cell has one wire. Assumes nothing.
-use mathlib.Core.Path.{◌≡◌, sym, ap, subst, ◌∙◌}
-use mathlib.Core.List.{List}
-use Prim.Native.Nat.{ℕ, ◌+◌, ◌<◌, ◌≤◌}
+use Rattle.std.proofs.Common.{◌≡◌, ℕ, suc, zero, ◌+◌, ◌-◌, ◌<◌, ◌≤◌, List, [], ◌∷◌, ◌++◌, length, get_or, set, drop, length-drop, refl, sym, ap, subst, ◌∙◌, append_assoc, append-nil, arith}
+use Rattle.std.proofs.lemmas.List.{get_or_read, drop_more}
 use native.Mathlib.Decide.{ℕ_discrete}
 use native.Mathlib.Nat.{not-suc-le-zero}
-use native.Mathlib.Omega.{arith}
-use lib.ListN.{length, get_or, set, length-set}
+use lib.ListN.{length-set}
 use lib.Seq.{get_or-set_same, get_or-set_other}
+use borrow.Author.Tests.{lt-ltb, le-ltb}
 use Rattle.bits.proofs.Filled.{Filling, filling_none, filling_more}
+use Rattle.bits.proofs.Listed.{is_listed}
 use Rattle.dcch_interleaver.specs.declared.BlockFormat.{BlockFormat}
 use Rattle.dcch_interleaver.specs.Formats.{encoded_bits, rows_of}
-use Rattle.dcch_interleaver.specs.Wire.{cell_at, wire_of, next_cell, interleaved, deinterleaved}
-use Rattle.dcch_interleaver.proofs.Wiring.{format_small, first_cell, next_cell_lem, cell_below, wire_below, wire_of_cell, cell_of_wire}
-use Rattle.bits.proofs.Listed.{is_listed}
+use Rattle.dcch_interleaver.specs.Wire.{across, every_second, wire_order, cell_at, wire_of, interleaved, deinterleaved}
+use Rattle.dcch_interleaver.proofs.Wiring.{order_length, format_small, cell_below, wire_below, wire_of_cell, cell_of_wire}
 
--- ---- while a wire is left, the loop stands at its cell
-abbrev pub Standing : BlockFormat → ℕ → ℕ → Type 0
-Standing f wire cell = wire < encoded_bits f → cell ≡ cell_at f wire
+-- ---- what is left of the order from a wire on
+abbrev pub Left : BlockFormat → ℕ → List ℕ → Type 0
+Left f wire l = drop wire (wire_order f) ≡ l
 
-pub standing_first : (f : BlockFormat) → Standing f 0 0
-standing_first f h = sym (first_cell f)
+at_left : (order : List ℕ) (wire x : ℕ) (l : List ℕ) → drop wire order ≡ x ∷ l → (wire < length order) × (x ≡ get_or order wire 0) × (drop (wire + 1) order ≡ l)
+at_left order wire x l e =
+    let size : length order - wire ≡ suc (length l) = sym (length-drop wire order) ∙ ap length e in
+    let within : wire < length order = omega (arith, size) in
+    let same : x ∷ l ≡ get_or order wire 0 ∷ drop (wire + 1) order = sym e ∙ drop_more order wire 0 within in
+    (within, ap (λ (m : List ℕ). get_or m 0 0) same, sym (ap (drop 1) same))
 
-module _ (f : BlockFormat) {wire cell : ℕ} (s : Standing f wire cell) where
-  pub standing_below : wire < encoded_bits f → cell < encoded_bits f
-  standing_below h = subst (λ (c : ℕ). c < encoded_bits f) (sym (s h)) (cell_below f wire h)
+left_cell : (f : BlockFormat) (wire cell : ℕ) (l : List ℕ) → Left f wire (cell ∷ l) → (wire < encoded_bits f) × (cell ≡ cell_at f wire) × Left f (wire + 1) l
+unfolding cell_at
+left_cell f wire cell l e =
+    let a = at_left (wire_order f) wire cell l e in
+    (omega (arith, a.0, order_length f), a.1, a.2)
 
-  pub standing_next : {rows cells next : ℕ} → rows ≡ rows_of f → cells ≡ encoded_bits f → next ≡ next_cell rows cells cell → Standing f (wire + 1) next
-  standing_next {rows} {cells} {next} r n e h =
-      e ∙ rw (r, n, s (omega arith)) (next_cell_lem f wire h)
+left_none : (f : BlockFormat) (wire : ℕ) → Left f wire [] → encoded_bits f ≤ wire
+left_none f wire e = let size : length (wire_order f) - wire ≡ 0 = sym (length-drop wire (wire_order f)) ∙ ap length e in omega (arith, size, order_length f)
 
-  -- what `next_cell` requires
-  pub next_allowed : {rows : ℕ} → wire < encoded_bits f → rows ≡ rows_of f → (0 < rows) × (rows ≤ 13) × (cell < 260)
-  next_allowed h r =
-      (omega (arith, (format_small f).0), omega (arith, (format_small f).1), omega (arith, standing_below h, (format_small f).2))
+-- ---- a row: what is left are its cells from one on, and the rows after it
+across_more : (rows cells k cell : ℕ) → cell < cells → across rows cells (suc k) cell ≡ cell ∷ across rows cells k (cell + rows)
+unfolding across
+across_more rows cells k cell h = rw (lt-ltb cell cells h)
+
+across_none : (rows cells k cell : ℕ) → cells ≤ cell → across rows cells k cell ≡ []
+unfolding across
+across_none rows cells zero cell h = refl
+across_none rows cells (suc k) cell h = rw (le-ltb cell cells h)
+
+rows_more : (rows cells k row : ℕ) → row < rows → every_second rows cells (suc k) row ≡ across rows cells cells row ++ every_second rows cells k (row + 2)
+unfolding every_second
+rows_more rows cells k row h = rw (lt-ltb row rows h)
+
+rows_none : (rows cells k row : ℕ) → rows ≤ row → every_second rows cells k row ≡ []
+unfolding every_second
+rows_none rows cells zero row h = refl
+rows_none rows cells (suc k) row h = rw (le-ltb row rows h)
+
+-- what comes after the even rows, or after the odd rows
+unfoldable pub after : BlockFormat → ℕ → List ℕ
+after f zero = every_second (rows_of f) (encoded_bits f) (rows_of f) 1
+after f (suc first) = []
+
+-- before a row of the rows from `first` on
+pub record Rows (f : BlockFormat) (first row wire : ℕ) : Type 0 where
+  pub turns : ℕ
+  pub enough : rows_of f ≤ row + turns
+  pub left : Left f wire (every_second (rows_of f) (encoded_bits f) turns row ++ after f first)
+
+-- before a cell of a row
+pub record Cells (f : BlockFormat) (first row cell wire : ℕ) : Type 0 where
+  pub turns : ℕ
+  pub enough : encoded_bits f ≤ cell + turns
+  pub row_turns : ℕ
+  pub rows_enough : rows_of f ≤ row + 2 + row_turns
+  pub left : Left f wire (across (rows_of f) (encoded_bits f) turns cell ++ (every_second (rows_of f) (encoded_bits f) row_turns (row + 2) ++ after f first))
+
+module _ {f : BlockFormat} {first row wire : ℕ} (s : Rows f first row wire) where
+  -- a row begins
+  pub row_begins : row < rows_of f → Cells f first row row wire
+  row_begins h = go s.turns s.enough s.left
+    where
+      go : (k : ℕ) → rows_of f ≤ row + k → Left f wire (every_second (rows_of f) (encoded_bits f) k row ++ after f first) → Cells f first row row wire
+      go zero e l = absurd (omega arith)
+      go (suc k) e l =
+          record {
+            turns = encoded_bits f;
+            enough = omega arith;
+            row_turns = k;
+            rows_enough = omega arith;
+            left = l ∙ ap (λ (m : List ℕ). m ++ after f first) (rows_more (rows_of f) (encoded_bits f) k row h)
+                ∙ append_assoc (across (rows_of f) (encoded_bits f) (encoded_bits f) row) (every_second (rows_of f) (encoded_bits f) k (row + 2)) (after f first);
+          }
+
+  -- no row is left
+  rows_ended : rows_of f ≤ row → Left f wire (after f first)
+  rows_ended h = s.left ∙ ap (λ (m : List ℕ). m ++ after f first) (rows_none (rows_of f) (encoded_bits f) s.turns row h)
+
+module _ {f : BlockFormat} {first row cell wire : ℕ} (s : Cells f first row cell wire) where
+  -- the wire's cell, and then the next of its row
+  pub cell_passed : cell < encoded_bits f → (wire < encoded_bits f) × (cell ≡ cell_at f wire) × Cells f first row (cell + rows_of f) (wire + 1)
+  cell_passed h = go s.turns s.enough s.left
+    where
+      go : (k : ℕ) → encoded_bits f ≤ cell + k → Left f wire (across (rows_of f) (encoded_bits f) k cell ++ (every_second (rows_of f) (encoded_bits f) s.row_turns (row + 2) ++ after f first))
+          → (wire < encoded_bits f) × (cell ≡ cell_at f wire) × Cells f first row (cell + rows_of f) (wire + 1)
+      go zero e l = absurd (omega arith)
+      go (suc k) e l =
+          let m = left_cell f wire cell _
+          (l ∙ ap (λ (m : List ℕ). m ++ (every_second (rows_of f) (encoded_bits f) s.row_turns (row + 2) ++ after f first)) (across_more (rows_of f) (encoded_bits f) k cell h)) in
+          (m.0, m.1, record { turns = k; enough = omega (arith, (format_small f).0); row_turns = s.row_turns; rows_enough = s.rows_enough; left = m.2 })
+
+  -- the row ends
+  pub row_ended : encoded_bits f ≤ cell → Rows f first (row + 2) wire
+  row_ended h =
+      record {
+        turns = s.row_turns;
+        enough = s.rows_enough;
+        left = s.left ∙ ap (λ (m : List ℕ). m ++ (every_second (rows_of f) (encoded_bits f) s.row_turns (row + 2) ++ after f first)) (across_none (rows_of f) (encoded_bits f) s.turns cell h);
+      }
+
+-- ---- the even rows, then the odd rows: before the rows from `first` on, or after all
+pub record Passes (f : BlockFormat) (first wire : ℕ) : Type 0 where
+  pub begins : first < 2 → Rows f first first wire
+  pub ends : 2 ≤ first → encoded_bits f ≤ wire
+
+pub even_rows : (f : BlockFormat) → Passes f 0 0
+unfolding wire_order after
+even_rows f = record { begins = λ h. record { turns = rows_of f; enough = omega arith; left = refl }; ends = λ h. absurd (omega arith) }
+
+pub rows_passed : {f : BlockFormat} {first row wire : ℕ} → Rows f first row wire → rows_of f ≤ row → first < 2 → Passes f (first + 1) wire
+unfolding after
+rows_passed {f} {first = zero} {row = row} {wire = wire} s h b =
+    record { begins = λ e. record { turns = rows_of f; enough = omega arith; left = rows_ended s h ∙ sym (append-nil _) }; ends = λ e. absurd (omega arith) }
+rows_passed {f} {first = suc zero} {wire = wire} s h b = record { begins = λ e. absurd (omega arith); ends = λ e. left_none f wire (rows_ended s h) }
+rows_passed {f} {first = suc (suc first)} s h b = absurd (omega arith)
 
 -- ---- `interleave`: the wires passed hold their cells' elements
-pub record Sending {A : Type 0} (f : BlockFormat) (d : A) (cells wires : List A) (wire cell : ℕ) : Type 0 where
+pub record Sending {A : Type 0} (f : BlockFormat) (d : A) (cells wires : List A) (wire : ℕ) : Type 0 where
   pub filling : Filling (λ w x. x ≡ get_or cells (cell_at f w) d) d (encoded_bits f) wires wire
-  pub stands : Standing f wire cell
 
-pub sending_none : {A : Type 0} (f : BlockFormat) {d : A} {cells wires : List A} → length wires ≡ encoded_bits f → Sending f d cells wires 0 0
-sending_none f e = record { filling = filling_none e; stands = standing_first f }
+pub sending_none : {A : Type 0} (f : BlockFormat) {d : A} {cells wires : List A} → length wires ≡ encoded_bits f → Sending f d cells wires 0
+sending_none f e = record { filling = filling_none e }
 
-module _ {A : Type 0} {f : BlockFormat} {d : A} {cells wires : List A} {wire cell : ℕ} (s : Sending f d cells wires wire cell) where
-  pub sending_more : {next : ℕ} → wire < encoded_bits f → Standing f (wire + 1) next → Sending f d cells (set wires wire (get_or cells cell d)) (wire + 1) next
-  sending_more h n =
-      record { filling = filling_more s.filling (get_or cells cell d) h (ap (λ (k : ℕ). get_or cells k d) (s.stands h)); stands = n }
+module _ {A : Type 0} {f : BlockFormat} {d : A} {cells wires : List A} {wire : ℕ} (s : Sending f d cells wires wire) where
+  pub sending_more : {x : A} → wire < encoded_bits f → x ≡ get_or cells (cell_at f wire) d → Sending f d cells (set wires wire x) (wire + 1)
+  sending_more {x} h e = record { filling = filling_more s.filling x h e }
 
   pub sending_done : encoded_bits f ≤ wire → wires ≡ interleaved f d cells
   unfolding interleaved
   sending_done h = is_listed (encoded_bits f) _ d wires s.filling.size (λ w b. s.filling.right w (omega arith))
 
+pub sending_next : {A : Type 0} {f : BlockFormat} {cells wires : List A} {wire cell : ℕ} {x : A} → ((d : A) → Sending f d cells wires wire) → wire < encoded_bits f → cell ≡ cell_at f wire
+    → cell < length cells → x ≡ get_or cells cell x → (d : A) → Sending f d cells (set wires wire x) (wire + 1)
+sending_next {cells = cells} {cell = cell} {x = x} s h e low read d =
+    sending_more (s d) h (get_or_read cells cell x low read d ∙ ap (λ (k : ℕ). get_or cells k d) e)
+
 -- ---- `deinterleave`: the cells of the wires passed hold the wires' elements
-pub record Receiving {A : Type 0} (f : BlockFormat) (d : A) (wires cells : List A) (wire cell : ℕ) : Type 0 where
+pub record Receiving {A : Type 0} (f : BlockFormat) (d : A) (wires cells : List A) (wire : ℕ) : Type 0 where
   pub size : length cells ≡ encoded_bits f
   pub right : (w : ℕ) → w < wire → get_or cells (cell_at f w) d ≡ get_or wires w d
-  pub stands : Standing f wire cell
 
-pub receiving_none : {A : Type 0} (f : BlockFormat) {d : A} {wires cells : List A} → length cells ≡ encoded_bits f → Receiving f d wires cells 0 0
-receiving_none f e = record { size = e; right = λ w h. absurd (not-suc-le-zero h); stands = standing_first f }
+pub receiving_none : {A : Type 0} (f : BlockFormat) {d : A} {wires cells : List A} → length cells ≡ encoded_bits f → Receiving f d wires cells 0
+receiving_none f e = record { size = e; right = λ w h. absurd (not-suc-le-zero h) }
 
-module _ {A : Type 0} {f : BlockFormat} {d : A} {wires cells : List A} {wire cell : ℕ} (s : Receiving f d wires cells wire cell) where
-  pub receiving_more : {next : ℕ} → wire < encoded_bits f → Standing f (wire + 1) next → Receiving f d wires (set cells cell (get_or wires wire d)) (wire + 1) next
-  receiving_more h n =
-      record { size = length-set cells cell (get_or wires wire d) ∙ s.size; right = λ w b. go w b (ℕ_discrete w wire); stands = n }
+module _ {A : Type 0} {f : BlockFormat} {d : A} {wires cells : List A} {wire : ℕ} (s : Receiving f d wires cells wire) where
+  pub receiving_more : {x : A} → wire < encoded_bits f → x ≡ get_or wires wire d → Receiving f d wires (set cells (cell_at f wire) x) (wire + 1)
+  receiving_more {x} h e =
+      record { size = length-set cells (cell_at f wire) x ∙ s.size; right = λ w b. go w b (ℕ_discrete w wire) }
     where
-      here : cell ≡ cell_at f wire
-      here = s.stands h
-
       -- the wires before have other cells
-      other : (w : ℕ) → w < wire → cell_at f w ≡ cell → ⊥
-      other w b e =
-          let k : w ≡ wire = sym (wire_of_cell f w (omega arith)) ∙ ap (wire_of f) (e ∙ here) ∙ wire_of_cell f wire h in
+      other : (w : ℕ) → w < wire → cell_at f w ≡ cell_at f wire → ⊥
+      other w b same =
+          let k : w ≡ wire = sym (wire_of_cell f w (omega arith)) ∙ ap (wire_of f) same ∙ wire_of_cell f wire h in
           omega arith
 
-      go : (w : ℕ) → w < wire + 1 → Dec (w ≡ wire) → get_or (set cells cell (get_or wires wire d)) (cell_at f w) d ≡ get_or wires w d
-      go w b (yes e) =
-          rw (e, ← here) (get_or-set_same cells cell (get_or wires wire d) d (subst (λ (m : ℕ). cell < m) (sym s.size) (standing_below f s.stands h)))
-      go w b (no k) =
-          get_or-set_other cells cell (cell_at f w) (get_or wires wire d) d (other w (omega arith)) ∙ s.right w (omega arith)
+      go : (w : ℕ) → w < wire + 1 → Dec (w ≡ wire) → get_or (set cells (cell_at f wire) x) (cell_at f w) d ≡ get_or wires w d
+      go w b (yes here) =
+          rw here (get_or-set_same cells (cell_at f wire) x d (subst (λ (m : ℕ). cell_at f wire < m) (sym s.size) (cell_below f wire h)) ∙ e)
+      go w b (no n) =
+          get_or-set_other cells (cell_at f wire) (cell_at f w) x d (other w (omega arith)) ∙ s.right w (omega arith)
 
   pub receiving_done : encoded_bits f ≤ wire → cells ≡ deinterleaved f d wires
   unfolding deinterleaved
   receiving_done h =
       is_listed (encoded_bits f) _ d cells s.size
       (λ c b. ap (λ (k : ℕ). get_or cells k d) (sym (cell_of_wire f c b)) ∙ s.right (wire_of f c) (omega (arith, wire_below f c b)))
+
+pub receiving_next : {A : Type 0} {f : BlockFormat} {wires cells : List A} {wire cell : ℕ} {x : A} → ((d : A) → Receiving f d wires cells wire) → wire < encoded_bits f → cell ≡ cell_at f wire
+    → wire < length wires → x ≡ get_or wires wire x → (d : A) → Receiving f d wires (set cells cell x) (wire + 1)
+receiving_next {wires = wires} {wire = wire} {x = x} s h e low read d = rw e (receiving_more (s d) h (get_or_read wires wire x low read d))

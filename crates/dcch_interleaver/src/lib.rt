@@ -6,9 +6,9 @@ mod wire;
 ghost use Rattle.std.specs.Prelude.{◌≡◌};
 ghost use Rattle.dcch_interleaver.specs.Formats.{encoded_bits, information_bits, rows_of};
 
-pub use wire::{deinterleave, deinterleave_soft, interleave};
+pub use wire::{deinterleave, interleave};
 
-#[derive(Clone, Copy)]
+#[derive(Clone, Copy, Debug, PartialEq, Eq)]
 pub enum BlockFormat {
     Forward,
     ReverseNormal,

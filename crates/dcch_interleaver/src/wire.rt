@@ -1,65 +1,41 @@
 // The interleaver (IS-136.1-A 4.4.3.2): the cells are sent by rows, the even rows first. specs/Wire.antt says which cell is sent at which place.
-// Ported from 136-bts (see NOTICE): `permutation`, `interleave` and `deinterleave` of dcch.rs, with a rule for the next cell in place of the table.
-ghost use Rattle.std.specs.Prelude.{◌≡◌, ◌<◌, ◌≤◌, length};
-ghost use Rattle.std.specs.Float.{nan};
+// Ported from 136-bts (see NOTICE): `permutation`, `interleave` and `deinterleave` of dcch.rs, with loops over the rows in place of the table.
+ghost use Rattle.std.specs.Prelude.{◌≡◌, length};
 ghost use Rattle.dcch_interleaver.specs.Formats.{encoded_bits};
-ghost use Rattle.dcch_interleaver.specs.Wire.{deinterleaved, interleaved, next_cell};
+ghost use Rattle.dcch_interleaver.specs.Wire.{deinterleaved, interleaved};
 
 use crate::BlockFormat;
 
-// The cell that is sent after a cell. It divides only at the end of a row.
-fn next_cell(cell: usize, rows: usize, cells: usize) -> usize
-    requires { (0 < rows) × (rows ≤ 13) × (cell < 260) }
-    ensures { result ≡ next_cell rows cells cell }
-{
-    let across = cell + rows;
-    if across < cells {
-        return across;
-    }
-    let down = cell % rows + 2;
-    if down < rows {
-        return down;
-    }
-    1
-}
-
 // Writes what is sent of the cells.
-pub fn interleave(format: BlockFormat, cells: &[u8], wires: &mut [u8])
+pub fn interleave<T: Copy>(format: BlockFormat, cells: &[T], wires: &mut [T])
     requires { (length cells.now ≡ encoded_bits format) × (length wires.old ≡ encoded_bits format) }
-    ensures { wires.new ≡ interleaved format 0 cells.now }
+    ensures { (d : T) → wires.new ≡ interleaved format d cells.now }
 {
     let rows = format.rows();
-    let mut cell = 0;
-    for wire in 0..wires.len() {
-        wires[wire] = cells[cell];
-        cell = next_cell(cell, rows, cells.len());
+    let mut wire = 0;
+    for first in 0..2 {
+        for row in (first..rows).step_by(2) {
+            for cell in (row..cells.len()).step_by(rows) {
+                wires[wire] = cells[cell];
+                wire += 1;
+            }
+        }
     }
 }
 
-// Writes the cells of what was received.
-pub fn deinterleave(format: BlockFormat, wires: &[u8], cells: &mut [u8])
+// Writes the cells of what was received: bits or reliabilities.
+pub fn deinterleave<T: Copy>(format: BlockFormat, wires: &[T], cells: &mut [T])
     requires { (length wires.now ≡ encoded_bits format) × (length cells.old ≡ encoded_bits format) }
-    ensures { cells.new ≡ deinterleaved format 0 wires.now }
+    ensures { (d : T) → cells.new ≡ deinterleaved format d wires.now }
 {
     let rows = format.rows();
-    let mut cell = 0;
-    for wire in 0..wires.len() {
-        let bit = wires[wire];
-        cells[cell] = bit;
-        cell = next_cell(cell, rows, wires.len());
-    }
-}
-
-// The same of reliabilities.
-pub fn deinterleave_soft(format: BlockFormat, wires: &[f64], cells: &mut [f64])
-    requires { (length wires.now ≡ encoded_bits format) × (length cells.old ≡ encoded_bits format) }
-    ensures { cells.new ≡ deinterleaved format nan wires.now }
-{
-    let rows = format.rows();
-    let mut cell = 0;
-    for wire in 0..wires.len() {
-        let reliability = wires[wire];
-        cells[cell] = reliability;
-        cell = next_cell(cell, rows, wires.len());
+    let mut wire = 0;
+    for first in 0..2 {
+        for row in (first..rows).step_by(2) {
+            for cell in (row..wires.len()).step_by(rows) {
+                cells[cell] = wires[wire];
+                wire += 1;
+            }
+        }
     }
 }

@@ -1,7 +1,7 @@
--- The rules of `index` agree with the table, column by column: tests that antt computes. Assumes nothing.
-use mathlib.Core.Path.{◌≡◌, sym, ap, ◌∙◌}
+-- The rules of `place` agree with the table, column by column: tests that antt computes. Assumes nothing.
+use mathlib.Core.Path.{◌≡◌, sym, ap, subst, ◌∙◌}
 use mathlib.Core.List.{List, [], ◌∷◌}
-use Prim.Native.Nat.{ℕ, ◌+◌, ◌-◌, ◌*◌, ◌^◌, ◌<◌, ◌≤◌}
+use Prim.Native.Nat.{ℕ, ◌+◌, ◌-◌, ◌*◌, ◌<◌, ◌≤◌}
 use native.Mathlib.Omega.{arith}
 use lib.Dec.{T, eqb, eqb→eq}
 use lib.ListN.{get_or}
@@ -14,12 +14,15 @@ along f g from n t k h b =
     let e : k - from + from ≡ k = omega arith in
     ap f (sym e) ∙ eqb→eq (f (k - from + from)) (g (k - from + from)) (below (λ j. eqb (f (j + from)) (g (j + from))) n t (k - from) (omega arith)) ∙ ap g e
 
--- the two tables of the code
+-- the tables of the code
 abbrev first_row : List ℕ
 first_row = 215 ∷ 256 ∷ 223 ∷ 258 ∷ 230 ∷ 219 ∷ 257 ∷ 227 ∷ 259 ∷ 189 ∷ []
 
 abbrev column_three_end : List ℕ
 column_three_end = 216 ∷ 217 ∷ 218 ∷ 220 ∷ 221 ∷ 222 ∷ 224 ∷ 225 ∷ 226 ∷ 228 ∷ 229 ∷ []
+
+abbrev late_column_bases : List ℕ
+late_column_bases = 230 ∷ 88 ∷ 113 ∷ 138 ∷ 163 ∷ 189 ∷ []
 
 pub first_row_lem : (column : ℕ) → column < 10 → get_or first_row column 0 ≡ place_of 0 column
 unfolding table place_of
@@ -33,9 +36,6 @@ module _ (row : ℕ) (positive : 0 < row) (low : row < 26) where
       along (λ r. r - 1 + column * 25) (λ r. place_of r column) 1 25
       (below (λ c. every (λ k. eqb (k + 1 - 1 + c * 25) (place_of (k + 1) c)) 25) 3 tt column h) row positive (omega arith)
 
-  pub early_fits : (column : ℕ) → column < 3 → row - 1 + column * 25 < 2 ^ 64
-  early_fits column h = omega arith
-
   pub column_three_start : row < 15 → row + 74 ≡ place_of row 3
   unfolding table place_of
   column_three_start h = along (λ r. r + 74) (λ r. place_of r 3) 1 14 tt row positive (omega arith)
@@ -45,27 +45,9 @@ module _ (row : ℕ) (positive : 0 < row) (low : row < 26) where
   column_three_end_lem h = along (λ r. get_or column_three_end (r - 15) 0) (λ r. place_of r 3) 15 11 tt row h (omega arith)
 
   -- the columns from four on count from a base
-  module _ {column : ℕ} where
-    pub column_four : column ≡ 4 → row + 230 ≡ place_of row column
-    unfolding table place_of
-    column_four e = along (λ r. r + 230) (λ r. place_of r 4) 1 25 tt row positive (omega arith) ∙ sym (ap (place_of row) e)
-
-    pub column_five : column ≡ 5 → row + 88 ≡ place_of row column
-    unfolding table place_of
-    column_five e = along (λ r. r + 88) (λ r. place_of r 5) 1 25 tt row positive (omega arith) ∙ sym (ap (place_of row) e)
-
-    pub column_six : column ≡ 6 → row + 113 ≡ place_of row column
-    unfolding table place_of
-    column_six e = along (λ r. r + 113) (λ r. place_of r 6) 1 25 tt row positive (omega arith) ∙ sym (ap (place_of row) e)
-
-    pub column_seven : column ≡ 7 → row + 138 ≡ place_of row column
-    unfolding table place_of
-    column_seven e = along (λ r. r + 138) (λ r. place_of r 7) 1 25 tt row positive (omega arith) ∙ sym (ap (place_of row) e)
-
-    pub column_eight : column ≡ 8 → row + 163 ≡ place_of row column
-    unfolding table place_of
-    column_eight e = along (λ r. r + 163) (λ r. place_of r 8) 1 25 tt row positive (omega arith) ∙ sym (ap (place_of row) e)
-
-    pub column_nine : column ≡ 9 → row + 189 ≡ place_of row column
-    unfolding table place_of
-    column_nine e = along (λ r. r + 189) (λ r. place_of r 9) 1 25 tt row positive (omega arith) ∙ sym (ap (place_of row) e)
+  pub late_column : (column : ℕ) → 4 ≤ column → column < 10 → row + get_or late_column_bases (column - 4) 0 ≡ place_of row column
+  unfolding table place_of
+  late_column column h b =
+      along (λ r. r + get_or late_column_bases (column - 4) 0) (λ r. place_of r column) 1 25
+      (subst (λ (c : ℕ). T (every (λ k. eqb (k + 1 + get_or late_column_bases (column - 4) 0) (place_of (k + 1) c)) 25)) (let e : column - 4 + 4 ≡ column = omega arith in e)
+      (below (λ c. every (λ k. eqb (k + 1 + get_or late_column_bases c 0) (place_of (k + 1) (c + 4))) 25) 6 tt (column - 4) (omega arith))) row positive (omega arith)

@@ -5,7 +5,7 @@ use mathlib.Core.List.{List, map}
 use Prim.Native.Nat.{ℕ, ◌/◌, ◌%◌, ◌<◌}
 use lib.Dec.{eqb}
 use lib.ListN.{length, get_or, get_or-map}
-use Rattle.bits.specs.Bits.{bit, byte, bits, all_binary}
+use Rattle.bits.specs.Bits.{byte, bits, all_binary}
 use Rattle.bits.proofs.Binary.{binary_bytes, bytes_bits}
 use Rattle.bits.proofs.Listed.{length-listed, get_d_listed, map-listed, listed_same}
 use Rattle.interleaving.specs.Slots.{carried, collected, by_row}

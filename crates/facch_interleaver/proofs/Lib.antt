@@ -1,6 +1,5 @@
 -- The laws.
 pub mod Table
 pub mod Columns
-pub mod Passing
-pub mod Spreading
+pub mod Observing
 pub mod Interleaved

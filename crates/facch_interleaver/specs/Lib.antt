@@ -1,2 +1,3 @@
 -- The slots that carry FACCH words.
 pub mod Wire
+pub mod Laws

@@ -1,12 +1,11 @@
 -- The slot order (IS-54-B 2.7.3.1.1.2): a slot carries 26 rows of ten bits; its even rows finish the previous word, its odd rows start the current one.
-use Rattle.std.specs.Prelude.{◌≡◌, List, [], ◌∷◌, ℕ, ◌/◌, ◌%◌, ◌<◌, length, get_or, replicate}
+use Rattle.std.specs.Prelude.{List, [], ◌∷◌, ℕ, length, get_or, replicate}
 use Rattle.bits.specs.Places.{listed, place_in}
-use Rattle.bits.specs.Arguments.{bits_and_room}
-use Rattle.bits.specs.declared.arguments.Arguments.{Arguments}
+use Rattle.bits.specs.Arguments.{Arguments, bits_and_room}
 use Rattle.facch_interleaver.specs.declared.WordHalf.{WordHalf}
 use Rattle.facch_interleaver.specs.declared.WordHalf.TheVariants.{Start, End}
-use Rattle.bits.specs.declared.Wrote.{Wrote}
 use Rattle.bits.specs.Calls.{WriteCall}
+use Rattle.interleaving.specs.Orders.{at_wire}
 use Rattle.interleaving.specs.Slots.{carried, collected, by_row}
 use Rattle.interleaving.specs.Calls.{two_arguments}
 
@@ -46,7 +45,7 @@ place_of row column = get_or (get_or table row []) column 0
 
 -- the bits of a slot are its rows one after the other
 abbrev pub place_at : ℕ → ℕ
-place_at wire = place_of (wire / 10) (wire % 10)
+place_at wire = at_wire place_of wire
 
 -- the bit of a slot that carries a place
 unfoldable pub wire_of : ℕ → ℕ
@@ -70,22 +69,16 @@ abbrev pub parity_of : WordHalf → ℕ
 parity_of Start = 1
 parity_of End = 0
 
--- some of a slot's bits, written at their places; the other places as they were
-pub record Spread (Of : ℕ → Type 0) (slot coded₀ coded : List ℕ) : Type 0 where
-  pub size : length coded ≡ 260
-  pub right : (wire : ℕ) → wire < 260 → Of wire → get_or coded (place_at wire) 0 ≡ get_or slot wire 0
-  pub kept : (wire : ℕ) → wire < 260 → (Of wire → ⊥) → get_or coded (place_at wire) 0 ≡ get_or coded₀ (place_at wire) 0
-
 -- ---- the calls
 -- a slice and room for the other
 abbrev pub one_arguments : List ℕ → ℕ → Arguments
 one_arguments a room = bits_and_room 260 a 260 room
 
-abbrev pub Interleaving : List ℕ → List ℕ → List ℕ → List ℕ → Wrote → Type 0
+abbrev pub Interleaving : List ℕ → List ℕ → List ℕ → List ℕ → Arguments → Type 0
 Interleaving previous current slot₀ slot r = WriteCall (two_arguments previous current (length slot₀)) (interleaved 0 previous current) slot₀ slot r
 
-abbrev pub Deinterleaving : List ℕ → List ℕ → List ℕ → List ℕ → Wrote → Type 0
+abbrev pub Deinterleaving : List ℕ → List ℕ → List ℕ → List ℕ → Arguments → Type 0
 Deinterleaving first second coded₀ coded r = WriteCall (two_arguments first second (length coded₀)) (deinterleaved 0 first second) coded₀ coded r
 
-abbrev pub Observing : List ℕ → WordHalf → List ℕ → List ℕ → Wrote → Type 0
+abbrev pub Observing : List ℕ → WordHalf → List ℕ → List ℕ → Arguments → Type 0
 Observing slot half coded₀ coded r = WriteCall (one_arguments slot (length coded₀)) (observed half slot) coded₀ coded r

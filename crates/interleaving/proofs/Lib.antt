@@ -1,2 +1,4 @@
 -- The laws of slots.
 pub mod RoundTrip
+pub mod Orders
+pub mod Parts

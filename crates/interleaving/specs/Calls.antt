@@ -1,7 +1,6 @@
 -- What a call over slots tests first.
 use Rattle.std.specs.Prelude.{List, ℕ}
-use Rattle.bits.specs.Arguments.{two_and_room}
-use Rattle.bits.specs.declared.arguments.Arguments.{Arguments}
+use Rattle.bits.specs.Arguments.{Arguments, two_and_room}
 
 -- two slices of 260 bits and room for a third
 abbrev pub two_arguments : List ℕ → List ℕ → ℕ → Arguments

@@ -1,4 +1,3 @@
 -- The laws.
 pub mod Order
-pub mod Rowing
 pub mod RoundTrip

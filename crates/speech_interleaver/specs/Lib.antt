@@ -1,3 +1,3 @@
--- The slot order of VSELP (Wire), and a row that is written (Rows).
+-- The slot order of VSELP.
 pub mod Wire
-pub mod Rows
+pub mod Laws

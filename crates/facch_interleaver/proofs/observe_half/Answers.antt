@@ -1,15 +1,12 @@
--- `facch_interleaver::observe_half` meets its contract: a refusal, or the half word. Assumes nothing.
-use Rattle.bits.proofs.Writing.{declined_end, done_end}
+-- `facch_interleaver::observe_half` meets its contract: bytes 2, and then the rows of the half. Assumes nothing.
+use Rattle.std.proofs.Common.{◌≡◌, ℕ, replicate, length, ap, ◌∙◌, rules}
 use Rattle.bits.proofs.Refusing.{passed_room}
+use Rattle.bits.proofs.Writing.{done_end}
+use Rattle.facch_interleaver.proofs.Observing.{one_half}
 use Rattle.facch_interleaver.proofs.observe_half.Goals as goal
 
-pub returns-in-Refused : goal.returns-in-Refused
-returns-in-Refused c = declined_end c.bits_and_room-ready.ensures _ c.in-Refused.is
-
-pub spread_half-requires : goal.spread_half-requires
-spread_half-requires c =
-    let p = passed_room 260 c.args.slot.now 260 _ c.bits_and_room-ready.ensures c.in_default.is in
-    (p.0, p.1)
-
 pub returns : goal.returns
-returns c = done_end c.bits_and_room-ready.ensures c.in_default.is c.spread_half.ensures
+returns c =
+    let size : length c.args.coded.now ≡ 260 = (passed_room 260 c.args.slot.now 260 _ c.bits_and_room.ensures c.in_ok-bits_and_room.was).1 in
+    let twos = c.fill.ensures.after (search rules) ∙ ap (λ n. replicate {A = ℕ} n 2) size in
+    done_end c.bits_and_room.ensures c.in_ok-bits_and_room.was (one_half c.args.half c.args.slot.now c.parity.ensures.0 twos c.collect_rows.ensures)

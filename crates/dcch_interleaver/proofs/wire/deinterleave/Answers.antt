@@ -1,29 +1,66 @@
--- `dcch_interleaver::wire::deinterleave` meets its contract: the cells of the wires passed hold the wires' bytes.
--- The loop knows its format by the rows and the length alone. Assumes nothing.
-use mathlib.Core.Path.{refl, sym, ◌∙◌}
-use native.Mathlib.Omega.{arith}
-use Rattle.dcch_interleaver.proofs.Passing.{receiving_none, receiving_more, receiving_done, standing_below, standing_next, next_allowed}
+-- `dcch_interleaver::wire::deinterleave` meets its contract: each wire has its cell, by rows, and none is left at the end. Assumes nothing.
+use Rattle.std.proofs.Common.{arith}
+use Rattle.dcch_interleaver.proofs.Wiring.{format_small}
+use Rattle.dcch_interleaver.proofs.Passing.{even_rows, row_begins, cell_passed, row_ended, rows_passed, receiving_none, receiving_next, receiving_done}
 use Rattle.dcch_interleaver.proofs.wire.deinterleave.Goals as goal
+use Rattle.dcch_interleaver.proofs.wire.deinterleave.Goals.{else-loop-cell-test, then-loop-cell-test+else-rows-cell-end, else-loop-row-test, then-loop-row-test+else-rows-row-gt2}
 
-pub loop-wire-init : goal.loop-wire-init
-loop-wire-init c = (refl, λ f r n. receiving_none f (c.requires.1 ∙ sym c.requires.0 ∙ n))
+pub loop-first-init : goal.loop-first-init
+loop-first-init g c = record { stands = even_rows c.args.format; written = λ d. receiving_none c.args.format c.requires.1 }
 
-pub bounds-cells-cell : goal.bounds-cells-cell
-bounds-cells-cell c = omega (arith, (c.loop-wire.invariant.1 c.args.format c.rows-rows.ensures c.requires.0).size, standing_below _ (c.loop-wire.invariant.1 c.args.format c.rows-rows.ensures c.requires.0).stands (omega arith))
+pub loop-cell-init : goal.loop-cell-init
+loop-cell-init g c = record { stands = row_begins c.loop-row.invariant.stands (omega (arith, c.rows-rows.ensures)); written = c.loop-row.invariant.written }
 
-pub next_cell-cell-requires : goal.next_cell-cell-requires
-next_cell-cell-requires c = next_allowed _ (c.loop-wire.invariant.1 c.args.format c.rows-rows.ensures c.requires.0).stands (omega arith) c.rows-rows.ensures
+pub offset_bounds-wires-wire : goal.offset_bounds-wires-wire
+offset_bounds-wires-wire g c = let p = cell_passed c.loop-cell.invariant.stands (omega (arith, c.requires.0)) in omega (arith, p.0, c.requires.0, c.requires.1, (format_small c.args.format).2)
 
-pub loop-wire-preserved : goal.loop-wire-preserved
-loop-wire-preserved c = (
-  refl,
-  λ f r n.
-      let s = c.loop-wire.invariant.1 f r n in
-      receiving_more s (omega arith) (standing_next f s.stands r n c.next_cell-cell.ensures),
-)
+pub bounds-wires-wire : goal.bounds-wires-wire
+bounds-wires-wire g c = let p = cell_passed c.loop-cell.invariant.stands (omega (arith, c.requires.0)) in omega (arith, p.0, c.requires.0, c.requires.1, (format_small c.args.format).2)
 
-pub shape_of-cells : goal.shape_of-cells
-shape_of-cells c = (c.loop-wire.invariant.1 c.args.format c.rows-rows.ensures c.requires.0).size ∙ sym c.requires.1
+pub overflow_add-wire : goal.overflow_add-wire
+overflow_add-wire g c = let p = cell_passed c.loop-cell.invariant.stands (omega (arith, c.requires.0)) in omega (arith, p.0, c.requires.0, c.requires.1, (format_small c.args.format).2)
+
+pub loop-cell-preserved : goal.loop-cell-preserved
+loop-cell-preserved g c =
+    let p = cell_passed c.loop-cell.invariant.stands (omega (arith, c.requires.0)) in
+    record { stands = rw c.rows-rows.ensures p.2; written = receiving_next c.loop-cell.invariant.written p.0 p.1 (omega (arith, c.requires.0, p.0)) c.index-wires-wire.is }
+
+pub loop-row-preserved : goal.loop-row-preserved
+loop-row-preserved g c =
+    elim c.loop-cell-test.branch [
+      | else-loop-cell-test w ↦ rw (w.wire-is, w.cells-is) (record { stands = row_ended c.loop-cell.invariant.stands (omega (arith, c.requires.0)); written = c.loop-cell.invariant.written })
+      | then-loop-cell-test+else-rows-cell-end w ↦
+          let p = cell_passed c.loop-cell.invariant.stands (omega (arith, c.requires.0)) in
+          rw (w.wire-is, w.cells-is)
+          (record {
+            stands = row_ended p.2 (omega (arith, c.requires.0, c.rows-rows.ensures));
+            written = receiving_next c.loop-cell.invariant.written p.0 p.1 (omega (arith, c.requires.0, p.0)) w.index-wires-wire.is;
+          })
+    ]
+
+pub loop-first-preserved : goal.loop-first-preserved
+loop-first-preserved g c =
+    elim c.loop-row-test.branch [
+      | else-loop-row-test w ↦
+          rw (w.wire-is, w.cells-is) (record { stands = rows_passed c.loop-row.invariant.stands (omega (arith, c.rows-rows.ensures)) c.loop-first-test.true; written = c.loop-row.invariant.written })
+      | then-loop-row-test+else-rows-row-gt2 w ↦
+          rw (w.wire-is, w.cells-is)
+          (elim w.loop-cell-test.branch [
+            | else-loop-cell-test v ↦
+                rw (v.wire-is, v.cells-is)
+                (record {
+                  stands = rows_passed (row_ended w.loop-cell.invariant.stands (omega (arith, c.requires.0))) (omega (arith, c.rows-rows.ensures)) c.loop-first-test.true;
+                  written = w.loop-cell.invariant.written;
+                })
+            | then-loop-cell-test+else-rows-cell-end v ↦
+                let p = cell_passed w.loop-cell.invariant.stands (omega (arith, c.requires.0)) in
+                rw (v.wire-is, v.cells-is)
+                (record {
+                  stands = rows_passed (row_ended p.2 (omega (arith, c.requires.0, c.rows-rows.ensures))) (omega (arith, c.rows-rows.ensures)) c.loop-first-test.true;
+                  written = receiving_next w.loop-cell.invariant.written p.0 p.1 (omega (arith, c.requires.0, p.0)) v.index-wires-wire.is;
+                })
+          ])
+    ]
 
 pub returns : goal.returns
-returns c = receiving_done (c.loop-wire.invariant.1 c.args.format c.rows-rows.ensures c.requires.0) (omega arith)
+returns g c d = receiving_done (c.loop-first.invariant.written d) (c.loop-first.invariant.stands.ends (omega arith))

@@ -1,11 +1,21 @@
--- `dcch_interleaver::wire::deinterleave` meets its contract: the cells of the wires passed hold the wires' bytes.
--- The loop knows its format by the rows and the length alone. Assumes nothing.
-use mathlib.Core.Path.{◌≡◌}
-use lib.ListN.{length}
-use Rattle.dcch_interleaver.specs.declared.BlockFormat.{BlockFormat}
-use Rattle.dcch_interleaver.specs.Formats.{encoded_bits, rows_of}
-use Rattle.dcch_interleaver.proofs.Passing.{Receiving}
+-- `dcch_interleaver::wire::deinterleave` meets its contract: the cells of the wires passed hold the wires' elements. Assumes nothing.
+use Rattle.dcch_interleaver.proofs.Passing.{Passes, Rows, Cells, Receiving}
 use Rattle.dcch_interleaver.proofs.wire.deinterleave.Given as goal
 
-abbrev pub invariant-loop-wire : goal.invariant-loop-wire
-invariant-loop-wire l = (l.wire-end ≡ length l.wires) × ((f : BlockFormat) → l.rows ≡ rows_of f → length l.wires ≡ encoded_bits f → Receiving f 0 l.wires l.cells l.wire l.cell)
+abbrev pub invariant-loop-first : goal.invariant-loop-first
+invariant-loop-first g l = record {
+  stands : Passes l.fn.format l.first l.wire;
+  written : (d : _) → Receiving l.fn.format d l.wires l.cells l.wire;
+}
+
+abbrev pub invariant-loop-row : goal.invariant-loop-row
+invariant-loop-row g l = record {
+  stands : Rows l.fn.format l.first l.row l.wire;
+  written : (d : _) → Receiving l.fn.format d l.wires l.cells l.wire;
+}
+
+abbrev pub invariant-loop-cell : goal.invariant-loop-cell
+invariant-loop-cell g l = record {
+  stands : Cells l.fn.format l.first l.row l.cell l.wire;
+  written : (d : _) → Receiving l.fn.format d l.wires l.cells l.wire;
+}

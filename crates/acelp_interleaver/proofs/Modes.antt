@@ -1,0 +1,10 @@
+-- The rows of a slot by their mode. Assumes nothing.
+use Rattle.std.proofs.Common.{ℕ, ◌%◌, ◌<◌, arith}
+use Rattle.acelp_interleaver.specs.declared.Interleaving.{Interleaving}
+use Rattle.acelp_interleaver.specs.declared.Interleaving.TheVariants.{One, Two, Three}
+use Rattle.acelp_interleaver.specs.Wire.{slots_of}
+
+pub turn_below : (mode : Interleaving) (row : ℕ) → row % slots_of mode < slots_of mode
+turn_below One row = omega arith
+turn_below Two row = omega arith
+turn_below Three row = omega arith
