@@ -1,15 +1,13 @@
 -- What `decode` and `nearest_word` ask of their calls, and what they answer. Assumes nothing.
-use mathlib.Core.Path.{◌≡◌, refl, sym, ap, subst, ◌∙◌}
+use mathlib.Core.Path.{◌≡◌, ap, subst, ◌∙◌}
 use mathlib.Core.Bool.{Bool, true, false}
 use mathlib.Core.List.{List, ◌++◌, reverse}
 use Prim.Native.Nat.{ℕ, ◌+◌, ◌*◌, ◌/◌, ◌≤◌}
 use native.Mathlib.Omega.{arith}
 use lib.ListN.{length, take, drop, replicate}
-use lib.Seq.{length-take-le}
 use Rattle.bits.specs.Bits.{bits, all_binary}
-use Rattle.bits.specs.Refusals.{refused}
-use Rattle.bits.specs.declared.arguments.Arguments.{Arguments}
-use Rattle.bits.specs.declared.arguments.Arguments.TheVariants.{Passed, Refused}
+use Rattle.std.specs.Prelude.{Result, Ok}
+use Rattle.bits.specs.Arguments.{Arguments}
 use Rattle.bits.specs.declared.Refusal.{Refusal}
 use Rattle.bits.proofs.Binary.{bits-bytes, binary_bytes}
 use Rattle.bits.proofs.LentPart.{became, became_length}
@@ -20,8 +18,6 @@ use Rattle.trellis.specs.Words.{Terminated}
 use Rattle.viterbi.specs.Hard.{weight}
 use Rattle.dcch_interleaver.specs.declared.BlockFormat.{BlockFormat}
 use Rattle.dcch.specs.declared.crc.CrcMode.{CrcMode}
-use Rattle.dcch.specs.declared.block.Decoded.{Decoded}
-use Rattle.dcch.specs.declared.block.Decoded.TheVariants as answer
 use Rattle.dcch_interleaver.specs.Formats.{encoded_bits, information_bits}
 use Rattle.dcch_interleaver.specs.Wire.{deinterleaved}
 use Rattle.dcch.specs.Blocks.{decode_arguments, FoundWord, Finished, Decoding}
@@ -33,11 +29,8 @@ half_bits f = omega (arith, (format_sizes f).0)
 
 -- ---- `nearest_word`: the first n of 260 zeros become the cells
 module _ (f : BlockFormat) (block : List ℕ) (binary : all_binary block ≡ true) (n : ℕ) (en : n ≡ encoded_bits f) where
-  pub within : n ≤ 260
+  within : n ≤ 260
   within = omega (arith, (format_sizes f).2)
-
-  pub room : length (take {A = ℕ} n (replicate 260 0)) ≡ encoded_bits f
-  room = length-take-le {A = ℕ} n (replicate 260 0) within ∙ en
 
   module _ (cells : List ℕ) (kept : length cells ≡ length (take {A = ℕ} n (replicate 260 0))) (read : cells ≡ deinterleaved f 0 block) where
     part : take n (cells ++ drop {A = ℕ} n (replicate 260 0)) ≡ cells
@@ -62,50 +55,39 @@ module _ (f : BlockFormat) (block : List ℕ) (binary : all_binary block ≡ tru
         (subst (λ (u : List Bool). FoundFirst (Terminated (length word₀)) (weight u) word r) e g) in
         record { inputs = g'.found.word; written = g'.found.written; first = g'.first; count = g'.found.metric }
 
--- ---- `decode`
-module _ (f : BlockFormat) (block : List ℕ) (dvcc : ℕ) (mode : CrcMode) (information₀ : List ℕ) {l : Arguments} (told : l ≡ decode_arguments f block (length information₀)) where
-  pub declined_end : (why : Refusal) → l ≡ Refused why → Decoding f block dvcc mode information₀ information₀ (answer.Refused why)
-  declined_end why e =
-      record {
-        declined = λ y ey. let same : y ≡ why = cc in (ap refused (sym same), refl);
-        settled = λ ef. never_both ef (sym told ∙ e);
-      }
+-- ---- `decode`: the first n / 2 of 130 zeros become the word
+module _ (f : BlockFormat) (block : List ℕ) (dvcc : ℕ) (mode : CrcMode) (information₀ : List ℕ) {l : Arguments} (told : l ≡ decode_arguments f block (length information₀)) (passed : l ≡ Ok tt)
+    (n : ℕ) (en : n ≡ encoded_bits f) where
+  tests : (length block ≡ encoded_bits f) × (length information₀ ≡ information_bits f) × (all_binary block ≡ true)
+  tests = passed_room (encoded_bits f) block (information_bits f) (length information₀) told passed
 
-  module _ (passed : l ≡ Passed) where
-    tests : (length block ≡ encoded_bits f) × (length information₀ ≡ information_bits f) × (all_binary block ≡ true)
-    tests = passed_room (encoded_bits f) block (information_bits f) (length information₀) told passed
+  half_within : n / 2 ≤ 130
+  half_within = omega (arith, (format_sizes f).2)
 
-    module _ (n : ℕ) (en : n ≡ encoded_bits f) where
-      pub half_within : n / 2 ≤ 130
-      half_within = omega (arith, (format_sizes f).2)
+  module _ (word : List ℕ) (kept : length word ≡ length (take {A = ℕ} (n / 2) (replicate 130 0))) {corrected : ℕ} (g : FoundWord f block word corrected) where
+    word_part : take (n / 2) (word ++ drop {A = ℕ} (n / 2) (replicate 130 0)) ≡ word
+    word_part = became (n / 2) (replicate 130 0) half_within word kept
 
-      pub asks_nearest : (all_binary block ≡ true) × (length block ≡ encoded_bits f) × (length (take {A = ℕ} (n / 2) (replicate 130 0)) ≡ encoded_bits f / 2)
-      asks_nearest = (tests.2, tests.0, length-take-le {A = ℕ} (n / 2) (replicate 130 0) half_within ∙ ap (λ (m : ℕ). m / 2) en)
+    pub asks_finish : (all_binary (take (n / 2) (word ++ drop {A = ℕ} (n / 2) (replicate 130 0))) ≡ true)
+        × (length (take (n / 2) (word ++ drop {A = ℕ} (n / 2) (replicate 130 0))) ≡ length information₀ + 21) × (length information₀ ≤ 109)
+    asks_finish = (
+      ap all_binary word_part ∙ ap all_binary g.written ∙ binary_bytes (reverse g.inputs),
+      omega (arith, ap length word_part, became_length (n / 2) (replicate 130 0) half_within word kept, half_bits f, tests.1),
+      omega (arith, tests.1, (format_sizes f).1),
+    )
 
-      module _ (word : List ℕ) (kept : length word ≡ length (take {A = ℕ} (n / 2) (replicate 130 0))) {corrected : ℕ} (g : FoundWord f block word corrected) where
-        word_part : take (n / 2) (word ++ drop {A = ℕ} (n / 2) (replicate 130 0)) ≡ word
-        word_part = became (n / 2) (replicate 130 0) half_within word kept
-
-        pub asks_finish : (all_binary (take (n / 2) (word ++ drop {A = ℕ} (n / 2) (replicate 130 0))) ≡ true)
-            × (length (take (n / 2) (word ++ drop {A = ℕ} (n / 2) (replicate 130 0))) ≡ length information₀ + 21) × (length information₀ ≤ 109)
-        asks_finish = (
-          ap all_binary word_part ∙ ap all_binary g.written ∙ binary_bytes (reverse g.inputs),
-          omega (arith, ap length word_part, became_length (n / 2) (replicate 130 0) half_within word kept, half_bits f, tests.1),
-          omega (arith, tests.1, (format_sizes f).1),
-        )
-
-        pub settled_end : {information : List ℕ} {r : Decoded}
-            → Finished (bits (take (n / 2) (word ++ drop {A = ℕ} (n / 2) (replicate 130 0)))) corrected dvcc mode information₀ information r
-            → Decoding f block dvcc mode information₀ information r
-        settled_end {information} {r} h =
-            let e : bits (take (n / 2) (word ++ drop {A = ℕ} (n / 2) (replicate 130 0))) ≡ reverse g.inputs =
-            ap bits word_part ∙ ap bits g.written ∙ bits-bytes (reverse g.inputs) in
-            record {
-              declined = λ y ey. never_both passed (told ∙ ey);
-              settled = λ ef. record {
-                word = g.inputs;
-                first = g.first;
-                finished = subst (λ (m : ℕ). Finished (reverse g.inputs) m dvcc mode information₀ information r) g.count
-                    (subst (λ (u : List Bool). Finished u corrected dvcc mode information₀ information r) e h);
-              };
-            }
+    pub settled_end : {information : List ℕ} {r : Result ℕ Refusal}
+        → Finished (bits (take (n / 2) (word ++ drop {A = ℕ} (n / 2) (replicate 130 0)))) corrected dvcc mode information₀ information r
+        → Decoding f block dvcc mode information₀ information r
+    settled_end {information} {r} h =
+        let e : bits (take (n / 2) (word ++ drop {A = ℕ} (n / 2) (replicate 130 0))) ≡ reverse g.inputs =
+        ap bits word_part ∙ ap bits g.written ∙ bits-bytes (reverse g.inputs) in
+        record {
+          declined = λ y ey. never_both passed (told ∙ ey);
+          settled = λ ef. record {
+            word = g.inputs;
+            first = g.first;
+            finished = subst (λ (m : ℕ). Finished (reverse g.inputs) m dvcc mode information₀ information r) g.count
+                (subst (λ (u : List Bool). Finished u corrected dvcc mode information₀ information r) e h);
+          };
+        }

@@ -5,14 +5,12 @@ use mathlib.Core.Bool.{Bool, true, false}
 use mathlib.Core.List.{List, ◌++◌, reverse, reverse-append, reverse-reverse}
 use Prim.Native.Nat.{ℕ, ◌+◌, ◌/◌}
 use native.Mathlib.Omega.{arith}
-use lib.ListN.{length, take, replicate, length-append, length-reverse, length-map}
+use lib.ListN.{length, take, replicate, length-reverse, length-map}
 use lib.Seq.{take_at}
 use Rattle.bits.specs.Bits.{byte, bits, bytes, disagreements}
 use Rattle.bits.specs.Numbers.{unpacked}
-use Rattle.bits.specs.Refusals.{accepted}
-use Rattle.bits.specs.declared.arguments.Arguments.TheVariants.{Passed}
+use Rattle.std.specs.Prelude.{Result, Ok}
 use Rattle.bits.proofs.Binary.{bits-bytes, binary_bytes}
-use Rattle.bits.proofs.Packed.{unpacked-length}
 use Rattle.bits.proofs.Tally.{disagreements_self, disagreements_none}
 use Rattle.coding.specs.Codes.{coded, dcch}
 use Rattle.coding.specs.Registers.{memory_high}
@@ -27,12 +25,12 @@ use Rattle.dcch_interleaver.specs.declared.BlockFormat.{BlockFormat}
 use Rattle.dcch.specs.declared.crc.CrcMode.{CrcMode}
 use Rattle.dcch.proofs.Checksums.{sent_below}
 use Rattle.dcch.specs.Crc.{block_valid, sent_checksum}
-use Rattle.dcch.specs.declared.block.Decoded.{Decoded}
+use Rattle.bits.specs.declared.Refusal.{Refusal}
 use Rattle.dcch_interleaver.specs.Formats.{encoded_bits, information_bits}
 use Rattle.dcch_interleaver.specs.Wire.{interleaved, deinterleaved}
-use Rattle.dcch.specs.Blocks.{inputs_of, cells_of, block_of, decode_arguments, decode_answer, Settled, Decoding}
+use Rattle.dcch.specs.Blocks.{inputs_of, cells_of, block_of, decode_arguments, Settled, Decoding}
 use Rattle.dcch_interleaver.proofs.Interleaved.{interleaved-length, deinterleaved-interleaved}
-use Rattle.dcch.proofs.Encodings.{format_sizes}
+use Rattle.dcch.proofs.Encodings.{format_sizes, inputs-length}
 
 module _ (f : BlockFormat) (information : List Bool) (size : length information ≡ information_bits f) (dvcc : ℕ) (mode : CrcMode) where
   inputs : List Bool
@@ -42,10 +40,8 @@ module _ (f : BlockFormat) (information : List Bool) (size : length information 
   cells = cells_of information dvcc mode
 
   inputs_length : length inputs ≡ length information + 21
-  unfolding inputs inputs_of
-  inputs_length =
-      length-append information (unpacked 16 (sent_checksum information dvcc mode) ++ replicate 5 false)
-      ∙ ap (λ (n : ℕ). length information + n) (length-append (unpacked 16 (sent_checksum information dvcc mode)) (replicate 5 false) ∙ ap (λ (n : ℕ). n + 5) (unpacked-length 16 (sent_checksum information dvcc mode)))
+  unfolding inputs
+  inputs_length = inputs-length information (sent_checksum information dvcc mode)
 
   pub cells_length : length (cells_of information dvcc mode) ≡ encoded_bits f
   unfolding cells_of inputs
@@ -87,16 +83,16 @@ module _ (f : BlockFormat) (information : List Bool) (size : length information 
   unfolding inputs inputs_of
   valid_own n e = carries_own (λ (u : List Bool). sent_checksum u dvcc mode) n information (replicate 5 false) (sent_below information dvcc mode) e
 
-  passed : (n : ℕ) → n ≡ information_bits f → decode_arguments f (bytes (block_of f information dvcc mode)) n ≡ Passed
+  passed : (n : ℕ) → n ≡ information_bits f → decode_arguments f (bytes (block_of f information dvcc mode)) n ≡ Ok tt
   unfolding block_of
   passed n e =
       let block : List ℕ = bytes (interleaved f false (cells_of information dvcc mode)) in
       let l : length block ≡ encoded_bits f = length-map (interleaved f false (cells_of information dvcc mode)) byte ∙ interleaved-length f false (cells_of information dvcc mode) in
       room_passed (encoded_bits f) block (information_bits f) n l e (binary_bytes (interleaved f false (cells_of information dvcc mode)))
 
-  pub dcch_round_trip : (information₀ information' : List ℕ) (r : Decoded) → length information₀ ≡ information_bits f
+  pub dcch_round_trip : (information₀ information' : List ℕ) (r : Result ℕ Refusal) → length information₀ ≡ information_bits f
       → Decoding f (bytes (block_of f information dvcc mode)) dvcc mode information₀ information' r
-      → (decode_answer r ≡ accepted 0) × (information' ≡ bytes information)
+      → (r ≡ Ok 0) × (information' ≡ bytes information)
   dcch_round_trip information₀ information' r l d =
       let s : Settled f (bytes (block_of f information dvcc mode)) dvcc mode information₀ information' r = d.settled (passed (length information₀) l) in
       let w : List Bool = s.word in
@@ -105,6 +101,6 @@ module _ (f : BlockFormat) (information : List Bool) (size : length information 
       let zero : weight cells w ≡ 0 = omega (arith, first.nearest.least (reverse inputs) own, own_weight) in
       let same : reverse w ≡ inputs = only_own w first.nearest.word zero in
       let taken = s.finished.taken (ap (λ (u : List Bool). block_valid (length information₀) u dvcc mode) same ∙ valid_own (length information₀) (l ∙ sym size)) in (
-        taken.0 ∙ ap accepted (ap (λ (u : List Bool). weight u w) received ∙ zero),
+        taken.0 ∙ ap Ok (ap (λ (u : List Bool). weight u w) received ∙ zero),
         taken.1 ∙ ap bytes (ap (take (length information₀)) same ∙ front (length information₀) (l ∙ sym size)),
       )

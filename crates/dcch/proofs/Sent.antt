@@ -11,10 +11,8 @@ use lib.Seq.{length-take-le, drop_at, drop-drop}
 use lib.Ieee.{Float, nan}
 use Rattle.bits.specs.Bits.{bit, bits, disagreement, disagreements}
 use Rattle.bits.specs.Numbers.{packed, unpacked}
-use Rattle.bits.specs.Refusals.{accepted, refused}
-use Rattle.bits.specs.Arguments.{exact_of}
-use Rattle.bits.specs.declared.arguments.Arguments.{Arguments}
-use Rattle.bits.specs.declared.arguments.Arguments.TheVariants.{Passed, Refused}
+use Rattle.std.specs.Prelude.{Result, Ok, Err}
+use Rattle.bits.specs.Arguments.{exact_of, Arguments}
 use Rattle.bits.specs.declared.Refusal.TheVariants.{Crc}
 use Rattle.bits.proofs.Binary.{bits-bytes}
 use Rattle.bits.proofs.Packed.{unpacked-packed}
@@ -32,8 +30,8 @@ use Rattle.dcch_interleaver.proofs.Interleaved.{map-deinterleaved}
 use Rattle.dcch_interleaver.proofs.Disagreements.{tally_on_air}
 use Rattle.dcch.specs.declared.crc.CrcMode.{CrcMode}
 use Rattle.dcch.specs.Crc.{block_valid, sent_checksum}
-use Rattle.dcch.specs.declared.block.Decoded.{Decoded}
-use Rattle.dcch.specs.Blocks.{inputs_of, cells_of, block_of, decode_arguments, decode_answer, Finished, Settled, Decoding}
+use Rattle.bits.specs.declared.Refusal.{Refusal}
+use Rattle.dcch.specs.Blocks.{inputs_of, cells_of, block_of, decode_arguments, Finished, Settled, Decoding}
 use Rattle.dcch.specs.SoftBlocks.{soft_arguments, signs_of, SoftEnd, SoftDecoding}
 use Rattle.dcch.proofs.Decodings.{half_bits}
 use Rattle.dcch.proofs.RoundTrip.{cells_length}
@@ -85,35 +83,35 @@ module _ (f : BlockFormat) (dvcc : ℕ) (mode : CrcMode) where
 
   -- ---- an accepted decoding
   -- the answer of a decoding that has finished
-  taken_only : {inputs : List Bool} {corrected n : ℕ} {information₀ information : List ℕ} {r : Decoded} → Finished inputs corrected dvcc mode information₀ information r
-      → decode_answer r ≡ accepted n → (block_valid (length information₀) inputs dvcc mode ≡ true) × (n ≡ corrected) × (bits information ≡ take (length information₀) inputs)
+  taken_only : {inputs : List Bool} {corrected n : ℕ} {information₀ information : List ℕ} {r : Result ℕ Refusal} → Finished inputs corrected dvcc mode information₀ information r
+      → r ≡ Ok n → (block_valid (length information₀) inputs dvcc mode ≡ true) × (n ≡ corrected) × (bits information ≡ take (length information₀) inputs)
   taken_only {inputs} {corrected} {n} {information₀} {information} {r} p a = go (block_valid (length information₀) inputs dvcc mode) refl
     where
       go : (b : Bool) → block_valid (length information₀) inputs dvcc mode ≡ b
           → (block_valid (length information₀) inputs dvcc mode ≡ true) × (n ≡ corrected) × (bits information ≡ take (length information₀) inputs)
-      go true e = let t = p.taken e in let q : accepted n ≡ accepted corrected = sym a ∙ t.0 in (e, cc, ap bits t.1 ∙ bits-bytes (take (length information₀) inputs))
-      go false e = let t = p.failed e in let q : accepted n ≡ refused Crc = sym a ∙ t.0 in (cc, cc, cc)
+      go true e = let t = p.taken e in let q : Ok n ≡ Ok corrected = sym a ∙ t.0 in (e, cc, ap bits t.1 ∙ bits-bytes (take (length information₀) inputs))
+      go false e = let t = p.failed e in let q : Ok n ≡ Err Crc = sym a ∙ t.0 in (cc, cc, cc)
 
-  pub corrected_on_air : {block information₀ information : List ℕ} {r : Decoded} {n : ℕ} → Decoding f block dvcc mode information₀ information r → decode_answer r ≡ accepted n
+  pub corrected_on_air : {block information₀ information : List ℕ} {r : Result ℕ Refusal} {n : ℕ} → Decoding f block dvcc mode information₀ information r → r ≡ Ok n
       → n ≡ disagreements (block_of f (bits information) dvcc mode) (bits block)
   unfolding weight_from
   corrected_on_air {block} {information₀} {information} {r} {n} d a = go (decode_arguments f block (length information₀)) refl
     where
       go : (l : Arguments) → decode_arguments f block (length information₀) ≡ l → n ≡ disagreements (block_of f (bits information) dvcc mode) (bits block)
-      go Passed e =
+      go (Ok tt) e =
           let tests = passed_room (encoded_bits f) block (information_bits f) (length information₀) refl e in
           let s : Settled f block dvcc mode information₀ information r = d.settled e in
           let t = taken_only s.finished a in
           t.1 ∙ differ_on_air s.word s.first.nearest.word (length information₀) tests.1 t.0 (bits block) false (length-map block bit ∙ tests.0)
           ∙ ap (λ (u : List Bool). disagreements (block_of f u dvcc mode) (bits block)) (sym t.2)
-      go (Refused why) e = let q : refused why ≡ accepted n = sym (d.declined why e).0 ∙ a in cc
+      go (Err why) e = let q : Err why ≡ Ok n = sym (d.declined why e).0 ∙ a in cc
 
-  pub soft_corrected_on_air : {block : List Float} {information₀ information : List ℕ} {r : Decoded} {n : ℕ} → SoftDecoding f block dvcc mode information₀ information r
-      → decode_answer r ≡ accepted n → n ≡ sign_count (block_of f (bits information) dvcc mode) block
+  pub soft_corrected_on_air : {block : List Float} {information₀ information : List ℕ} {r : Result ℕ Refusal} {n : ℕ} → SoftDecoding f block dvcc mode information₀ information r
+      → r ≡ Ok n → n ≡ sign_count (block_of f (bits information) dvcc mode) block
   unfolding signs_of
   soft_corrected_on_air {block} {information₀} {information} {r} {n} d a = go (soft_arguments f (length block) (length information₀)) refl
     where
-      settled : soft_arguments f (length block) (length information₀) ≡ Passed → SoftEnd signs_of f block dvcc mode information₀ information r
+      settled : soft_arguments f (length block) (length information₀) ≡ Ok tt → SoftEnd signs_of f block dvcc mode information₀ information r
           → n ≡ sign_count (block_of f (bits information) dvcc mode) block
       settled e s =
           let sizes = passed_first (exact_of (encoded_bits f) (length block)) (exact_of (information_bits f) (length information₀)) e in
@@ -123,10 +121,10 @@ module _ (f : BlockFormat) (dvcc : ℕ) (mode : CrcMode) where
           (length-map block negative ∙ sym (passed_exact (encoded_bits f) (length block) sizes.0))
           ∙ ap (λ (u : List Bool). sign_count (block_of f u dvcc mode) block) (sym t.2)
 
-      finite : soft_arguments f (length block) (length information₀) ≡ Passed → (b : Bool) → all_finite block ≡ b → n ≡ sign_count (block_of f (bits information) dvcc mode) block
+      finite : soft_arguments f (length block) (length information₀) ≡ Ok tt → (b : Bool) → all_finite block ≡ b → n ≡ sign_count (block_of f (bits information) dvcc mode) block
       finite e true h = settled e (d.settled e h)
-      finite e false h = let q : refused Crc ≡ accepted n = sym (d.unreadable e h).0 ∙ a in cc
+      finite e false h = let q : Err Crc ≡ Ok n = sym (d.unreadable e h).0 ∙ a in cc
 
       go : (l : Arguments) → soft_arguments f (length block) (length information₀) ≡ l → n ≡ sign_count (block_of f (bits information) dvcc mode) block
-      go Passed e = finite e (all_finite block) refl
-      go (Refused why) e = let q : refused why ≡ accepted n = sym (d.declined why e).0 ∙ a in cc
+      go (Ok tt) e = finite e (all_finite block) refl
+      go (Err why) e = let q : Err why ≡ Ok n = sym (d.declined why e).0 ∙ a in cc

@@ -2,57 +2,37 @@
 use mathlib.Core.Path.{◌≡◌, sym, ap, subst, ◌∙◌}
 use mathlib.Core.Bool.{Bool, true}
 use mathlib.Core.List.{List, ◌++◌, reverse}
-use Prim.Native.Nat.{ℕ, ◌+◌, ◌*◌, ◌<◌, ◌≤◌}
+use Prim.Native.Nat.{ℕ, ◌+◌, ◌*◌, ◌≤◌}
 use native.Mathlib.Omega.{arith}
 use lib.ListN.{length, take, drop, replicate}
 use lib.Seq.{length-take-le}
 use lib.Ieee.{Float}
+use Rattle.std.specs.Prelude.{Result}
 use Rattle.bits.specs.Bits.{bits, all_binary}
 use Rattle.bits.proofs.Binary.{bits-bytes, binary_bytes}
 use Rattle.bits.proofs.LentPart.{became, became_length}
 use Rattle.coding.specs.Codes.{coded, dcch}
 use Rattle.coding.specs.Registers.{memory_high}
 use Rattle.coding.specs.Runs.{Encoded}
-use Rattle.soft.specs.Reliability.{all_finite, sign_count}
+use Rattle.soft.specs.Reliability.{sign_count}
 use Rattle.soft.specs.Soft.{SoftFound}
 use Rattle.dcch.specs.declared.crc.CrcMode.{CrcMode}
-use Rattle.dcch.specs.declared.block.Decoded.{Decoded}
+use Rattle.bits.specs.declared.Refusal.{Refusal}
 use Rattle.dcch.specs.Blocks.{Finished}
 use Rattle.dcch.specs.SoftBlocks.{signs_of, CellsSearched}
 
 -- ---- `count_signs`: the first places of 260 zeros become the coded bits
-module _ (word : List ℕ) (values : List Float) (binary : all_binary word ≡ true) (small : length word ≤ 130) (twice : length values ≡ length word * 2) where
-  pub values_within : length values ≤ 260
-  values_within = omega arith
-
-  pub asks_encode : (0 < 32) × (length (take {A = ℕ} (length values) (replicate 260 0)) ≡ length word * 2) × (all_binary word ≡ true)
-  asks_encode = (omega arith, length-take-le {A = ℕ} (length values) (replicate 260 0) values_within ∙ twice, binary)
-
-  module _ (out : List ℕ) (kept : length out ≡ length (take {A = ℕ} (length values) (replicate 260 0))) where
-    out_part : take (length values) (out ++ drop {A = ℕ} (length values) (replicate 260 0)) ≡ out
-    out_part = became (length values) (replicate 260 0) values_within out kept
-
-    pub asks_count : (length (take (length values) (out ++ drop {A = ℕ} (length values) (replicate 260 0))) < 65536)
-        × (length (take (length values) (out ++ drop {A = ℕ} (length values) (replicate 260 0))) ≡ length values)
-    asks_count =
-        let l : length (take (length values) (out ++ drop {A = ℕ} (length values) (replicate 260 0))) ≡ length values =
-        ap length out_part ∙ became_length (length values) (replicate 260 0) values_within out kept in
-        (omega (arith, l, values_within), l)
-
-    pub signs_counted : {r next : ℕ} → Encoded 0 word out next → r ≡ sign_count (bits (take (length values) (out ++ drop {A = ℕ} (length values) (replicate 260 0)))) values
-        → r ≡ signs_of (bits word) values
-    unfolding signs_of
-    signs_counted e c =
-        c ∙ ap (λ (u : List Bool). sign_count u values) (ap bits (out_part ∙ e.bits) ∙ bits-bytes (coded dcch (memory_high 0) (bits word)))
+module _ (word : List ℕ) (values : List Float) (small : length word ≤ 130) (twice : length values ≡ length word * 2) (out : List ℕ)
+    (kept : length out ≡ length (take {A = ℕ} (length values) (replicate 260 0))) where
+  pub signs_counted : {r next : ℕ} → Encoded 0 word out next → r ≡ sign_count (bits (take (length values) (out ++ drop {A = ℕ} (length values) (replicate 260 0)))) values
+      → r ≡ signs_of (bits word) values
+  unfolding signs_of
+  signs_counted e c =
+      let part : take (length values) (out ++ drop {A = ℕ} (length values) (replicate 260 0)) ≡ out = became (length values) (replicate 260 0) (omega arith) out kept in
+      c ∙ ap (λ (u : List Bool). sign_count u values) (ap bits (part ∙ e.bits) ∙ bits-bytes (coded dcch (memory_high 0) (bits word)))
 
 -- ---- `search_cells`: the first places of 130 zeros become the word
-module _ (values : List Float) (information : List ℕ) (small : length information ≤ 109) (twice : length values ≡ (length information + 21) * 2) (all : all_finite values ≡ true) where
-  pub asks_soft : (5 ≤ length (take {A = ℕ} (length information + 21) (replicate 130 0))) × (length (take {A = ℕ} (length information + 21) (replicate 130 0)) ≤ 130)
-      × (length values ≡ length (take {A = ℕ} (length information + 21) (replicate 130 0)) * 2) × (all_finite values ≡ true)
-  asks_soft =
-      let l : length (take {A = ℕ} (length information + 21) (replicate 130 0)) ≡ length information + 21 = length-take-le {A = ℕ} (length information + 21) (replicate 130 0) (omega arith) in
-      (omega arith, omega arith, omega arith, all)
-
+module _ (values : List Float) (information : List ℕ) (small : length information ≤ 109) (twice : length values ≡ (length information + 21) * 2) where
   module _ (word : List ℕ) (kept : length word ≡ length (take {A = ℕ} (length information + 21) (replicate 130 0)))
       (g : SoftFound values (length (take {A = ℕ} (length information + 21) (replicate 130 0))) word) where
     part : take (length information + 21) (word ++ drop {A = ℕ} (length information + 21) (replicate 130 0)) ≡ word
@@ -73,7 +53,7 @@ module _ (values : List Float) (information : List ℕ) (small : length informat
         × (length (take (length information + 21) (word ++ drop {A = ℕ} (length information + 21) (replicate 130 0))) ≡ length information + 21) × (length information ≤ 109)
     asks_finish = (binary_part, size, small)
 
-    pub soft_end : {dvcc corrected : ℕ} {mode : CrcMode} {information' : List ℕ} {r : Decoded}
+    pub soft_end : {dvcc corrected : ℕ} {mode : CrcMode} {information' : List ℕ} {r : Result ℕ Refusal}
         → corrected ≡ signs_of (bits (take (length information + 21) (word ++ drop {A = ℕ} (length information + 21) (replicate 130 0)))) values
         → Finished (bits (take (length information + 21) (word ++ drop {A = ℕ} (length information + 21) (replicate 130 0)))) corrected dvcc mode information information' r
         → CellsSearched signs_of values dvcc mode information information' r

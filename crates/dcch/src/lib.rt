@@ -1,13 +1,13 @@
 // DCCH blocks (IS-136.1-A 4.4.3 and 5.2.6). Ported from 136-bts, dcch.rs (see NOTICE). The contracts cite specs/.
+// That bytes are bits stays a clause of each function: a type for it would wrap each buffer anew after each call that fills it, and be no plainer.
 #![tactic(auto)]
 
 mod block;
 mod crc;
 mod soft_block;
 
-pub use crate::block::{Decoded, decode, encode};
+pub use crate::block::{decode, encode};
 pub use crate::crc::{CrcMode, checksum};
-pub use bits::{Refusal, Wrote};
-pub use checksums::Checked;
+pub use bits::Refusal;
 pub use dcch_interleaver::BlockFormat;
 pub use soft_block::decode_soft;

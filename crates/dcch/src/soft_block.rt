@@ -3,22 +3,15 @@
 ghost use Rattle.std.specs.Prelude.{true, ◌≡◌, ◌+◌, ◌*◌, ◌≤◌, length};
 ghost use Rattle.bits.specs.Bits.{all_binary, bits};
 ghost use Rattle.soft.specs.Reliability.{all_finite};
-ghost use Rattle.dcch.specs.SoftBlocks.{CellsSearched, SoftDecoding, soft_arguments, signs_of};
+ghost use Rattle.dcch.specs.SoftBlocks.{CellsSearched, SoftDecoding, signs_of};
 
-use crate::block::{Decoded, finish};
-use crate::crc::CrcMode;
+use crate::crc::{Crc, CrcMode};
 use bits::Refusal;
-use bits::arguments::{Arguments, exact, first_refusal};
-use coding::dcch::convolutional_encode;
-use dcch_interleaver::{BlockFormat, deinterleave_soft};
+use bits::arguments::exact;
+use coding::Code;
+use coding::codes::Dcch;
+use dcch_interleaver::{BlockFormat, deinterleave};
 use soft::{all_finite, sign_count, viterbi_soft};
-
-fn soft_arguments(format: BlockFormat, block: usize, room: usize) -> Arguments
-    ensures { result ≡ soft_arguments format block room }
-{
-    let lengths = exact(format.encoded_bits(), block);
-    first_refusal(lengths, exact(format.information_bits(), room))
-}
 
 // In how many places the coded bits of a word differ from the signs of the reliabilities.
 fn count_signs(word: &[u8], values: &[f64]) -> u16
@@ -27,22 +20,23 @@ fn count_signs(word: &[u8], values: &[f64]) -> u16
 {
     let mut coded = [0u8; 260];
     let n = values.len();
-    convolutional_encode(0, word, &mut coded[..n]);
+    Dcch::convolutional_encode(0, word, &mut coded[..n]);
     sign_count(&coded[..n], values)
 }
 
 // The search of the cells, and the end of the decoding.
-fn search_cells(values: &[f64], dvcc: u8, mode: CrcMode, information: &mut [u8]) -> Decoded
+fn search_cells(values: &[f64], crc: Crc, information: &mut [u8]) -> Result<u16, Refusal>
     requires { (length information.old ≤ 109) × (length values.now ≡ (length information.old + 21) * 2) × (all_finite values.now ≡ true) }
-    ensures { CellsSearched signs_of values.now dvcc mode information.old information.new result }
+    ensures { CellsSearched signs_of values.now crc.dvcc crc.mode information.old information.new result }
 {
     let mut word = [0u8; 130];
     let steps = information.len() + 21;
     viterbi_soft(values, &mut word[..steps]);
     let corrected = count_signs(&word[..steps], values);
-    finish(&word[..steps], corrected, dvcc, mode, information)
+    crc.finish_decode(&word[..steps], corrected, information)
 }
 
+// No one function with `decode`: with their tests and searches as parameters it is no plainer than the two.
 // Writes the information of the word that the soft search finds, where its checksum is right, and gives its number of corrected bits.
 pub fn decode_soft(
     format: BlockFormat,
@@ -50,18 +44,16 @@ pub fn decode_soft(
     dvcc: u8,
     mode: CrcMode,
     information: &mut [u8],
-) -> Decoded
+) -> Result<u16, Refusal>
     ensures { SoftDecoding format block.now dvcc mode information.old information.new result }
 {
-    let ready = soft_arguments(format, block.len(), information.len());
-    if let Arguments::Refused(why) = ready {
-        return Decoded::Refused(why);
-    }
-    if !all_finite(block) {
-        return Decoded::Refused(Refusal::Crc);
-    }
     let bits = format.encoded_bits();
+    exact(bits, block.len())?;
+    exact(format.information_bits(), information.len())?;
+    if !all_finite(block) {
+        return Err(Refusal::Crc);
+    }
     let mut cells = [0.0f64; 260];
-    deinterleave_soft(format, block, &mut cells[..bits]);
-    search_cells(&cells[..bits], dvcc, mode, information)
+    deinterleave(format, block, &mut cells[..bits]);
+    search_cells(&cells[..bits], Crc { dvcc, mode }, information)
 }

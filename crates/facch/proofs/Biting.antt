@@ -1,27 +1,30 @@
 -- The coded bits of a word, in two runs from the memory of its first five bits. Assumes nothing.
 use mathlib.Core.Path.{◌≡◌, sym, ap, ap₂, subst, ◌∙◌}
 use mathlib.Core.Bool.{Bool, true, false}
-use mathlib.Core.List.{List, [], ◌∷◌, ◌++◌, append-nil, reverse}
+use mathlib.Core.List.{List, [], ◌∷◌, ◌++◌, reverse}
 use Prim.Native.Nat.{ℕ, ◌*◌, ◌%◌, ◌≤◌, ◌<◌}
 use native.Mathlib.Omega.{arith}
 use lib.Bits.{bit_or}
 use lib.Dec.{T, ltb, ltb→lt}
-use lib.ListN.{length, take, drop, get_or, length-drop, drop_of_length-le}
-use lib.Seq.{length-take-le, take_all, drop_at}
-use borrow.Rule.Slice.PartMut.{put_mid}
+use Rattle.std.specs.List.{fold}
+use lib.ListN.{length, take, drop, length-drop}
+use lib.Seq.{take_all}
 use Rattle.bits.specs.Bits.{bit, bits, bytes, byte, all_binary}
-use Rattle.bits.proofs.Binary.{byte-bit, bits-take, bits-drop, binary_head, binary_tail, binary_take, binary_drop}
-use Rattle.bits.proofs.LentPart.{part_length, became, became_length}
+use Rattle.bits.proofs.Binary.{byte-bit, bits-take, bits-drop, binary_head, binary_tail, binary_drop}
 use Rattle.bits.proofs.Tested.{both, both_left, both_right, same_bits, same_bits_eq}
 use Rattle.coding.specs.Codes.{coded, facch}
+use Rattle.coding.specs.Laws.{facch_laws}
 use Rattle.coding.specs.Registers.{memory_high}
 use Rattle.coding.specs.Runs.{Ran}
 use Rattle.coding.proofs.Coded.{ran_append}
 use Rattle.facch.specs.Words.{tail_biting}
 
 -- ---- the start memory, by one test over its five bits
+abbrev above : ℕ → ℕ → ℕ
+above memory bit = bit_or (memory * 2 % 256) bit
+
 abbrev memory_of : ℕ → ℕ → ℕ → ℕ → ℕ → ℕ
-memory_of a b c d e = bit_or (bit_or (bit_or (bit_or a (b * 2 % 256)) (c * 4 % 256)) (d * 8 % 256)) (e * 16 % 256)
+memory_of a b c d e = above (above (above (above (above 0 e) d) c) b) a
 
 abbrev right : Bool → Bool → Bool → Bool → Bool → Bool
 right a b c d e =
@@ -52,10 +55,9 @@ started a b c d e =
       same_bits_eq (memory_high m) (e ∷ d ∷ c ∷ b ∷ a ∷ []) (both_right (ltb m 32) (same_bits (memory_high m) (e ∷ d ∷ c ∷ b ∷ a ∷ [])) t),
     )
 
-pub starts : (word : List ℕ) → 5 ≤ length word → all_binary word ≡ true
-    → (memory_of (get_or word 0 0) (get_or word 1 0) (get_or word 2 0) (get_or word 3 0) (get_or word 4 0) < 32)
-    × (memory_high (memory_of (get_or word 0 0) (get_or word 1 0) (get_or word 2 0) (get_or word 3 0) (get_or word 4 0)) ≡ reverse (take 5 (bits word)))
-starts (a ∷ b ∷ c ∷ d ∷ e ∷ rest) h binary =
+pub starts : (word : List ℕ) → 5 ≤ length word → all_binary word ≡ true → {memory : ℕ} → memory ≡ fold above 0 (reverse (take 5 word))
+    → (memory < 32) × (memory_high memory ≡ reverse (take 5 (bits word)))
+starts (a ∷ b ∷ c ∷ d ∷ e ∷ rest) h binary {memory} told =
     let tb = binary_tail a _ binary in
     let tc = binary_tail b _ tb in
     let td = binary_tail c _ tc in
@@ -63,56 +65,27 @@ starts (a ∷ b ∷ c ∷ d ∷ e ∷ rest) h binary =
     let same : memory_of (byte (bit a)) (byte (bit b)) (byte (bit c)) (byte (bit d)) (byte (bit e)) ≡ memory_of a b c d e =
     rw (byte-bit a (binary_head a _ binary), byte-bit b (binary_head b _ tb), byte-bit c (binary_head c _ tc), byte-bit d (binary_head d _ td), byte-bit e (binary_head e _ te)) in
     let s = started (bit a) (bit b) (bit c) (bit d) (bit e) in
-    (subst (λ (m : ℕ). m < 32) same s.0, subst (λ (m : ℕ). memory_high m ≡ bit e ∷ bit d ∷ bit c ∷ bit b ∷ bit a ∷ []) same s.1)
-starts [] h binary = let z : ⊥ = omega arith in absurd z
-starts (a ∷ []) h binary = let z : ⊥ = omega arith in absurd z
-starts (a ∷ b ∷ []) h binary = let z : ⊥ = omega arith in absurd z
-starts (a ∷ b ∷ c ∷ []) h binary = let z : ⊥ = omega arith in absurd z
-starts (a ∷ b ∷ c ∷ d ∷ []) h binary = let z : ⊥ = omega arith in absurd z
+    (subst (λ (m : ℕ). m < 32) (same ∙ sym told) s.0, subst (λ (m : ℕ). memory_high m ≡ bit e ∷ bit d ∷ bit c ∷ bit b ∷ bit a ∷ []) (same ∙ sym told) s.1)
+starts [] h binary told = absurd (omega arith)
+starts (a ∷ []) h binary told = absurd (omega arith)
+starts (a ∷ b ∷ []) h binary told = absurd (omega arith)
+starts (a ∷ b ∷ c ∷ []) h binary told = absurd (omega arith)
+starts (a ∷ b ∷ c ∷ d ∷ []) h binary told = absurd (omega arith)
 
 -- ---- `encode_word`: bits 5 to 64 into the first 240 places, bits 0 to 4 into the rest
-module _ (word coded₀ : List ℕ) (size : length word ≡ 65) (binary : all_binary word ≡ true) (room : length coded₀ ≡ 260) where
+module _ (word : List ℕ) (size : length word ≡ 65) (binary : all_binary word ≡ true) where
   rest_is : take 60 (drop 5 word) ≡ drop 5 word
   rest_is = take_all 60 (drop 5 word) (omega (arith, length-drop 5 word))
 
-  first_room : 240 ≤ length coded₀
-  first_room = omega arith
+  pub asks_rest : {memory : ℕ} (part : List ℕ) → memory < 32 → length part ≡ 240
+      → (memory < 32) × (length part ≡ length (take 60 (drop 5 word)) * 4) × (all_binary (take 60 (drop 5 word)) ≡ true)
+  asks_rest part h l = (h, l ∙ sym (ap (λ (u : List ℕ). length u * 4) rest_is ∙ omega (arith, length-drop 5 word)), ap all_binary rest_is ∙ binary_drop 5 word binary)
 
-  pub first_part : 240 ≡ length (take 240 coded₀)
-  first_part = part_length 240 coded₀ first_room
-
-  pub five_bits : 5 ≡ length (take 5 word)
-  five_bits = part_length 5 word (omega arith)
-
-  pub asks_rest : {memory : ℕ} → memory < 32
-      → (memory < 32) × (length (take 240 coded₀) ≡ length (take 60 (drop 5 word)) * 4) × (all_binary (take 60 (drop 5 word)) ≡ true)
-  asks_rest h = (
-    h,
-    length-take-le 240 coded₀ first_room ∙ sym (ap (λ (l : List ℕ). length l * 4) rest_is ∙ omega (arith, length-drop 5 word)),
-    ap all_binary rest_is ∙ binary_drop 5 word binary,
-  )
-
-  module _ (out : List ℕ) (kept : length out ≡ length (take 240 coded₀)) where
-    back : drop 240 (out ++ drop 240 coded₀) ≡ drop 240 coded₀
-    back = drop_at out (drop 240 coded₀) 240 (became_length 240 coded₀ first_room out kept)
-
-    pub asks_first : {memory : ℕ} → memory < 32
-        → (memory < 32) × (length (take 20 (drop 240 (out ++ drop 240 coded₀))) ≡ length (take 5 word) * 4) × (all_binary (take 5 word) ≡ true)
-    asks_first h = (
-      h,
-      ap (λ (l : List ℕ). length (take 20 l)) back ∙ length-take-le 20 (drop 240 coded₀) (omega (arith, length-drop 240 coded₀))
-          ∙ sym (ap (λ (n : ℕ). n * 4) (length-take-le 5 word (omega arith))),
-      binary_take 5 word binary,
-    )
-
-    pub bitten : {start memory end : ℕ} {out' : List ℕ} → memory_high start ≡ reverse (take 5 (bits word))
-        → Ran facch memory_high start (bits (take 60 (drop 5 word))) memory out → Ran facch memory_high memory (bits (take 5 word)) end out'
-        → put_mid 240 20 (out ++ drop 240 coded₀) out' ≡ bytes (tail_biting (bits word))
-    unfolding tail_biting
-    bitten {start} {out'} es a b =
-        let none : drop 20 (drop 240 coded₀) ≡ [] = drop_of_length-le (drop 240 coded₀) {i = 20} (omega (arith, length-drop 240 coded₀)) in
-        let inputs : bits (take 60 (drop 5 word)) ++ bits (take 5 word) ≡ drop 5 (bits word) ++ take 5 (bits word) =
-        ap₂ (λ (u w : List Bool). u ++ w) (ap bits rest_is ∙ bits-drop 5 word) (bits-take 5 word) in
-        ap₂ (λ (l m : List ℕ). l ++ (out' ++ m)) (became 240 coded₀ first_room out kept) (ap (drop 20) back ∙ none)
-        ∙ ap (λ (l : List ℕ). out ++ l) (append-nil out') ∙ (ran_append tt a b).bits
-        ∙ ap₂ (λ (m u : List Bool). bytes (coded facch m u)) es inputs
+  pub bitten : {start memory end : ℕ} {out out' : List ℕ} → memory_high start ≡ reverse (take 5 (bits word))
+      → Ran facch memory_high start (bits (take 60 (drop 5 word))) memory out → Ran facch memory_high memory (bits (take 5 word)) end out'
+      → out ++ out' ≡ bytes (tail_biting (bits word))
+  unfolding tail_biting
+  bitten es a b =
+      let inputs : bits (take 60 (drop 5 word)) ++ bits (take 5 word) ≡ drop 5 (bits word) ++ take 5 (bits word) =
+      ap₂ (λ (u w : List Bool). u ++ w) (ap bits rest_is ∙ bits-drop 5 word) (bits-take 5 word) in
+      (ran_append facch_laws.six a b).bits ∙ ap₂ (λ (m u : List Bool). bytes (coded facch m u)) es inputs

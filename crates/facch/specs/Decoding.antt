@@ -1,46 +1,30 @@
 -- Decoding of a word: the nearest word over the observed bits (IS-54-B 2.7.3.1.1). A byte 2 stands for a bit that was not observed.
 -- A word is its 65 bits, oldest first.
-use Rattle.std.specs.Prelude.{Bool, false, cond, List, ℕ, ltb, get_or}
-use Rattle.bits.specs.Refusals.{Answer, accepted, refused}
-use Rattle.bits.specs.Arguments.{exact_bits}
+use Rattle.std.specs.Prelude.{Bool, false, cond, List, ℕ, ltb, get_or, Result, Ok, Err}
+use Rattle.bits.specs.Arguments.{Arguments, exact_bits}
 use Rattle.bits.specs.Observed.{exact_erasable, observed_count}
-use Rattle.bits.specs.declared.arguments.Arguments.{Arguments}
-use Rattle.bits.specs.declared.arguments.Arguments.TheVariants.{Passed, Refused}
+use Rattle.bits.specs.declared.Refusal.{Refusal}
 use Rattle.bits.specs.declared.Refusal.TheVariants as refusal
 use Rattle.trellis.specs.Nearest.{all_words, decided}
 use Rattle.words.specs.Words.{message_in, word_valid}
-use Rattle.facch.specs.declared.Decoded.{Decoded}
-use Rattle.facch.specs.declared.Decoded.TheVariants as decoded
+use Rattle.facch.specs.declared.FacchWord.{FacchWord}
 use Rattle.facch.specs.Search.{weight}
 
--- the content of a word, the message as a number with its first bit highest
-pub record Content : Type 0 where
-  pub continuation : Bool
-  pub message : ℕ
-  pub corrected : ℕ
-  pub observed : ℕ
-
--- what each answer is to document 01
-abbrev pub decode_answer : Decoded → Answer Content
-decode_answer (decoded.Accepted continuation message corrected observed) =
-    accepted (record { continuation = continuation; message = message; corrected = corrected; observed = observed })
-decode_answer (decoded.Refused why) = refused why
-
--- the content of a word with its corrected and observed bits
-unfoldable pub content_of : List Bool → ℕ → ℕ → Content
+-- the content of a word, the message as a number with its first bit highest, with its corrected and observed bits
+unfoldable pub content_of : List Bool → ℕ → ℕ → FacchWord
 content_of w corrected observed =
     record { continuation = get_or w 0 false; message = message_in 1 w; corrected = corrected; observed = observed }
 
 -- the content of a word where its checksum is right, else Crc
-unfoldable pub finished : List Bool → ℕ → ℕ → ℕ → Answer Content
-finished w corrected observed dvcc = cond (word_valid 1 w dvcc) (accepted (content_of w corrected observed)) (refused refusal.Crc)
+unfoldable pub finished : List Bool → ℕ → ℕ → ℕ → Result FacchWord Refusal
+finished w corrected observed dvcc = cond (word_valid 1 w dvcc) (Ok (content_of w corrected observed)) (Err refusal.Crc)
 
 -- Fewer than 65 observed bits are too few. Else the word of 65 bits that alone has the fewest disagreements decides, with their number; where two or more share
 -- the fewest, Ambiguous.
-unfoldable pub decode_of : List ℕ → ℕ → Answer Content
+unfoldable pub decode_of : List ℕ → ℕ → Result FacchWord Refusal
 decode_of received dvcc =
-    cond (ltb (observed_count received) 65) (refused refusal.InsufficientObservations)
-    (decided (all_words 65) (weight received) (λ (w : List Bool) (corrected : ℕ). finished w corrected (observed_count received) dvcc) (refused refusal.Ambiguous))
+    cond (ltb (observed_count received) 65) (Err refusal.InsufficientObservations)
+    (decided (all_words 65) (weight received) (λ (w : List Bool) (corrected : ℕ). finished w corrected (observed_count received) dvcc) (Err refusal.Ambiguous))
 
 -- ---- the calls: 260 bytes 0, 1 and 2, or 260 bits
 abbrev pub erased_arguments : List ℕ → Arguments
@@ -49,6 +33,6 @@ erased_arguments coded = exact_erasable 260 coded
 abbrev pub decode_arguments : List ℕ → Arguments
 decode_arguments coded = exact_bits 260 coded
 
-abbrev pub decoding : Arguments → List ℕ → ℕ → Answer Content
-decoding (Refused why) coded dvcc = refused why
-decoding Passed coded dvcc = decode_of coded dvcc
+abbrev pub decoding : Arguments → List ℕ → ℕ → Result FacchWord Refusal
+decoding (Err why) coded dvcc = Err why
+decoding (Ok passed) coded dvcc = decode_of coded dvcc

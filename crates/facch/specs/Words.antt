@@ -1,11 +1,9 @@
 -- FACCH words (IS-54-B 2.7.3.1.1), bits oldest first.
 use Rattle.std.specs.Prelude.{Bool, List, [], ◌∷◌, ◌++◌, reverse, ℕ, ◌^◌, length, take, drop}
 use Rattle.bits.specs.Bits.{bytes}
-use Rattle.bits.specs.Arguments.{first_refusal, exact_of, below_of}
-use Rattle.bits.specs.declared.arguments.Arguments.{Arguments}
+use Rattle.bits.specs.Arguments.{Arguments, first_refusal, exact_of, below_of}
 use Rattle.coding.specs.Codes.{coded, facch}
 use Rattle.words.specs.Words.{made_of}
-use Rattle.bits.specs.declared.Wrote.{Wrote}
 use Rattle.bits.specs.Calls.{WriteCall}
 
 -- 2.7.3.1.1: the 65 bits of a word, whose header is the continuation flag
@@ -21,6 +19,6 @@ tail_biting w = coded facch (reverse (take 5 w)) (drop 5 w ++ take 5 w)
 abbrev pub encode_arguments : ℕ → ℕ → Arguments
 encode_arguments message room = first_refusal (exact_of 260 room) (below_of (2 ^ 48) message)
 
-abbrev pub Encoding : Bool → ℕ → ℕ → List ℕ → List ℕ → Wrote → Type 0
+abbrev pub Encoding : Bool → ℕ → ℕ → List ℕ → List ℕ → Arguments → Type 0
 Encoding continuation message dvcc coded₀ coded r =
     WriteCall (encode_arguments message (length coded₀)) (bytes (tail_biting (word_of continuation message dvcc))) coded₀ coded r

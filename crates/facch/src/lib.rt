@@ -1,4 +1,5 @@
 // FACCH words (IS-54-B 2.7.3.1.1). Ported from 136-bts, facch.rs (see NOTICE). The contracts cite specs/.
+// That bytes are bits stays a clause of each function: a type for it would wrap each buffer anew after each call that fills it, and be no plainer.
 #![tactic(auto)]
 
 mod decoding;
@@ -6,19 +7,16 @@ mod nearest;
 mod word;
 
 pub use crate::word::encode;
-pub use bits::{Refusal, Wrote};
+pub use bits::Refusal;
 pub use decoding::{decode, decode_erased};
 pub use facch_interleaver::{WordHalf, deinterleave, interleave, observe_half};
 
-// What decoding a word answers: the word's content with its corrected and its observed bits, or a refusal.
-#[derive(Clone, Copy)]
-pub enum Decoded {
-    Accepted {
-        continuation: bool,
-        // 48 bits, the first highest.
-        message: u64,
-        corrected: u16,
-        observed: u16,
-    },
-    Refused(Refusal),
+// A decoded word: its content, and its corrected and its observed bits.
+#[derive(Clone, Copy, Debug, PartialEq, Eq)]
+pub struct FacchWord {
+    pub continuation: bool,
+    // 48 bits, the first highest.
+    pub message: u64,
+    pub corrected: u16,
+    pub observed: u16,
 }

@@ -1,52 +1,47 @@
 // Encoding of a word (IS-54-B 2.7.3.1.1).
 // Ported from 136-bts, facch.rs, and changed (see NOTICE).
-ghost use Rattle.std.specs.Prelude.{true, reverse, ◌≡◌, ◌<◌, ◌≤◌, length, take};
+ghost use Rattle.std.specs.Prelude.{true, reverse, ◌≡◌, ◌<◌, length, take};
 ghost use Rattle.bits.specs.Bits.{all_binary, bits, bytes};
 ghost use Rattle.coding.specs.Registers.{memory_high};
-ghost use Rattle.facch.specs.Words.{Encoding, encode_arguments, tail_biting};
+ghost use Rattle.facch.specs.Words.{Encoding, tail_biting};
 
-use bits::Wrote;
-use bits::arguments::{Arguments, below, exact, first_refusal};
-use coding::facch::convolutional_encode;
+use bits::Refusal;
+use bits::arguments::{below, exact};
+use coding::Code;
+use coding::codes::Facch;
 use words::{MESSAGES, complete};
 
-fn encode_arguments(message: u64, room: usize) -> Arguments
-    ensures { result ≡ encode_arguments message room }
-{
-    let length = exact(260, room);
-    let symbol = below(MESSAGES, message);
-    first_refusal(length, symbol)
-}
-
 // The memory that a word starts from: its first five bits, the first lowest.
-fn start_memory(word: &[u8]) -> u8
-    requires { (5 ≤ length word.now) × (all_binary word.now ≡ true) }
+fn start_memory(word: &[u8; 65]) -> u8
+    requires { all_binary word.now ≡ true }
     ensures { (result < 32) × (memory_high result ≡ reverse (take 5 (bits word.now))) }
 {
-    word[0] | (word[1] << 1) | (word[2] << 2) | (word[3] << 3) | (word[4] << 4)
+    word[..5]
+        .iter()
+        .rev()
+        .fold(0, |memory, bit| (memory << 1) | *bit)
 }
 
 // Writes the coded bits of a word. The memory after them is the one before them, so there is no tail.
-fn encode_word(word: &[u8], coded: &mut [u8])
-    requires { (length word.now ≡ 65) × (all_binary word.now ≡ true) × (length coded.old ≡ 260) }
+fn encode_word(word: &[u8; 65], coded: &mut [u8])
+    requires { (all_binary word.now ≡ true) × (length coded.old ≡ 260) }
     ensures { coded.new ≡ bytes (tail_biting (bits word.now)) }
 {
     let start = start_memory(word);
-    let memory = convolutional_encode(start, &word[5..65], &mut coded[..240]);
-    convolutional_encode(memory, &word[..5], &mut coded[240..260]);
+    let (most, rest) = coded.split_at_mut(240);
+    let memory = Facch::convolutional_encode(start, &word[5..], most);
+    Facch::convolutional_encode(memory, &word[..5], rest);
 }
 
 // Writes the coded bits of a message.
-pub fn encode(continuation: bool, message: u64, dvcc: u8, coded: &mut [u8]) -> Wrote
+pub fn encode(continuation: bool, message: u64, dvcc: u8, coded: &mut [u8]) -> Result<(), Refusal>
     ensures { Encoding continuation message dvcc coded.old coded.new result }
 {
-    let ready = encode_arguments(message, coded.len());
-    if let Arguments::Refused(why) = ready {
-        return Wrote::Refused(why);
-    }
+    exact(260, coded.len())?;
+    below(MESSAGES, message)?;
     let mut word = [0u8; 65];
-    word[0] = continuation as u8;
+    word[0] = u8::from(continuation);
     complete(1, message, dvcc, &mut word);
     encode_word(&word, coded);
-    Wrote::Done
+    Ok(())
 }

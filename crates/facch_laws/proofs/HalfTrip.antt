@@ -7,8 +7,7 @@ use native.Mathlib.Omega.{arith}
 use lib.Dec.{T}
 use lib.ListN.{length, get_or, get_or-map}
 use Rattle.bits.specs.Bits.{byte, bytes, all_binary}
-use Rattle.bits.specs.Refusals.{accepted}
-use Rattle.bits.specs.declared.arguments.Arguments.TheVariants.{Passed}
+use Rattle.std.specs.Prelude.{Ok}
 use Rattle.bits.proofs.Tally.{tally_zero, zero_at}
 use Rattle.bits.proofs.Binary.{byte_below, differ_same, differ_none}
 use Rattle.bits.specs.Observed.{erased_differ, observed_count}
@@ -16,7 +15,7 @@ use Rattle.bits.proofs.Below.{below_all}
 use Rattle.bits.proofs.Erased.{erased_none}
 use Rattle.facch_interleaver.specs.declared.WordHalf.{WordHalf}
 use Rattle.facch_interleaver.specs.declared.WordHalf.TheVariants.{Start, End}
-use Rattle.bits.specs.declared.Wrote.{Wrote}
+use Rattle.bits.specs.Arguments.{Arguments}
 use Rattle.interleaving.specs.Calls.{two_arguments}
 use Rattle.facch_interleaver.specs.Wire.{interleaved, observed, Interleaving, Observing}
 use Rattle.facch.specs.Words.{word_of, tail_biting, Encoding}
@@ -53,7 +52,7 @@ module _ (half : WordHalf) (w : List Bool) (size : length w ≡ 65) (other : Lis
       word-observed (bytes (tail_biting w)) place h half other
       ∙ ap (λ (x : ℕ). cond (carries half place) x 2) (get_or-map byte (tail_biting w) place false)
 
-  passed : erased_arguments received ≡ Passed
+  passed : erased_arguments received ≡ Ok tt
   passed =
       erasable_passed 260 received received_size
       (below_all 3 received
@@ -83,7 +82,7 @@ module _ (half : WordHalf) (w : List Bool) (size : length w ≡ 65) (other : Lis
 -- what is read of 260 bytes 0, 1 and 2: the message comes back
 abbrev pub Read : Bool → ℕ → ℕ → List ℕ → Type 0
 Read continuation message dvcc received =
-    decoding (erased_arguments received) received dvcc ≡ accepted (record { continuation = continuation; message = message; corrected = 0; observed = 130 })
+    decoding (erased_arguments received) received dvcc ≡ Ok (record { continuation = continuation; message = message; corrected = 0; observed = 130 })
 
 module _ (continuation : Bool) (message dvcc : ℕ) (h : message < 2 ^ 48) where
   abbrev pub sent : List ℕ
@@ -96,7 +95,7 @@ module _ (continuation : Bool) (message dvcc : ℕ) (h : message < 2 ^ 48) where
       let n : observed_count (observed half (slot_of half other sent)) ≡ 130 = many half w size other in
       agreed (observed half (slot_of half other sent)) w size (agrees half w size other) (only half w size other) _ dvcc (passed half w size other) (omega (arith, n))
       (valid_own continuation message dvcc)
-      ∙ ap accepted (ap (λ (k : ℕ). content_of w 0 k) n ∙ content_own continuation message dvcc 130 h)
+      ∙ ap Ok (ap (λ (k : ℕ). content_of w 0 k) n ∙ content_own continuation message dvcc 130 h)
 
   -- from the first of its slots, whatever word that finishes
   pub start_trip : (other : List ℕ) → Read continuation message dvcc (observed Start (interleaved 0 other sent))
@@ -107,21 +106,21 @@ module _ (continuation : Bool) (message dvcc : ℕ) (h : message < 2 ^ 48) where
   end_trip other = half_trip End other
 
   -- ---- the same of the calls
-  observed_trip : (half : WordHalf) (other : List ℕ) (r : Wrote) {slot received₀ received : List ℕ} → length received₀ ≡ 260
+  observed_trip : (half : WordHalf) (other : List ℕ) (r : Arguments) {slot received₀ received : List ℕ} → length received₀ ≡ 260
       → (slot ≡ slot_of half other sent) × (length slot ≡ 260) × (all_binary slot ≡ true) → Observing slot half received₀ received r
       → Read continuation message dvcc received
   observed_trip half other r {slot} {received₀} room s o =
       subst (Read continuation message dvcc) (sym ((o.done (room_passed 260 slot 260 (length received₀) s.1 room s.2)).1 ∙ ap (observed half) s.0)) (half_trip half other)
 
-  module _ {coded₀ coded : List ℕ} (r : Wrote) (room : length coded₀ ≡ 260) (e : Encoding continuation message dvcc coded₀ coded r)
-      (other : List ℕ) (r' r'' : Wrote) {slot₀ slot received₀ received : List ℕ} (room' : length received₀ ≡ 260) where
-    pub calls_start_trip : two_arguments other coded (length slot₀) ≡ Passed → Interleaving other coded slot₀ slot r' → Observing slot Start received₀ received r''
+  module _ {coded₀ coded : List ℕ} (r : Arguments) (room : length coded₀ ≡ 260) (e : Encoding continuation message dvcc coded₀ coded r)
+      (other : List ℕ) (r' r'' : Arguments) {slot₀ slot received₀ received : List ℕ} (room' : length received₀ ≡ 260) where
+    pub calls_start_trip : two_arguments other coded (length slot₀) ≡ Ok tt → Interleaving other coded slot₀ slot r' → Observing slot Start received₀ received r''
         → Read continuation message dvcc received
     calls_start_trip f i o =
         let s = slotted other coded r' f i in
         observed_trip Start other r'' room' (s.0 ∙ ap (interleaved 0 other) (written continuation message dvcc h r room e), s.1, s.2) o
 
-    pub calls_end_trip : two_arguments coded other (length slot₀) ≡ Passed → Interleaving coded other slot₀ slot r' → Observing slot End received₀ received r''
+    pub calls_end_trip : two_arguments coded other (length slot₀) ≡ Ok tt → Interleaving coded other slot₀ slot r' → Observing slot End received₀ received r''
         → Read continuation message dvcc received
     calls_end_trip f i o =
         let s = slotted coded other r' f i in

@@ -7,12 +7,10 @@ use native.Mathlib.Omega.{arith}
 use lib.Dec.{eqb}
 use lib.ListN.{length, get_or, replicate, get_or-replicate}
 use Rattle.bits.specs.Bits.{byte, all_binary}
-use Rattle.bits.specs.Refusals.{accepted}
+use Rattle.std.specs.Prelude.{Ok}
 use Rattle.bits.specs.Places.{listed, place_in}
 use Rattle.bits.proofs.Binary.{binary_at}
-use Rattle.bits.proofs.Listed.{is_listed}
-use Rattle.bits.specs.declared.arguments.Arguments.TheVariants.{Passed}
-use Rattle.bits.specs.declared.Wrote.{Wrote}
+use Rattle.bits.specs.Arguments.{Arguments}
 use Rattle.facch_interleaver.specs.declared.WordHalf.{WordHalf}
 use Rattle.facch_interleaver.specs.declared.WordHalf.TheVariants.{Start, End}
 use Rattle.interleaving.specs.Slots.{by_row}
@@ -20,7 +18,6 @@ use Rattle.interleaving.specs.Calls.{two_arguments}
 use Rattle.interleaving.proofs.RoundTrip.{between_two}
 use Rattle.bits.proofs.Refusing.{passed_two, two_passed}
 use Rattle.facch_interleaver.specs.Wire.{table, place_of, place_at, wire_of, interleaved, deinterleaved, observed, Interleaving, Deinterleaving}
-use Rattle.bits.specs.Calls.{wrote_answer}
 use Rattle.bits.specs.Observed.{observed_one, observed_count}
 use Rattle.facch_interleaver.proofs.Table.{wire_below, place_of_wire}
 use Rattle.facch_interleaver.proofs.Interleaved.{interleaved-length, deinterleaved-length, interleaved_at, deinterleaved_at, binary_interleaved}
@@ -44,17 +41,17 @@ module _ {A : Type 0} (d : A) where
   facch_slots_round_trip previous word next size = between_two d place_at wire_of wire_below place_of_wire previous word next size
 
 -- the same of the calls
-pub slotted : (previous current : List ℕ) (r : Wrote) {slot₀ slot : List ℕ} → two_arguments previous current (length slot₀) ≡ Passed → Interleaving previous current slot₀ slot r
+pub slotted : (previous current : List ℕ) (r : Arguments) {slot₀ slot : List ℕ} → two_arguments previous current (length slot₀) ≡ Ok tt → Interleaving previous current slot₀ slot r
     → (slot ≡ interleaved 0 previous current) × (length slot ≡ 260) × (all_binary slot ≡ true)
 slotted previous current r {slot₀} {slot} f i =
     let b = (passed_two 260 previous 260 current 260 (length slot₀) refl f).1 in
     let s : slot ≡ interleaved 0 previous current = (i.done f).1 in
     (s, ap length s ∙ interleaved-length 0 previous current, ap all_binary s ∙ binary_interleaved previous current b.0 b.1)
 
-pub facch_slot_calls_round_trip : (previous word next : List ℕ) (r r' r'' : Wrote) {slot₀ slot slot₀' slot' coded₀ coded : List ℕ}
-    → two_arguments previous word (length slot₀) ≡ Passed → two_arguments word next (length slot₀') ≡ Passed → length coded₀ ≡ 260
+pub facch_slot_calls_round_trip : (previous word next : List ℕ) (r r' r'' : Arguments) {slot₀ slot slot₀' slot' coded₀ coded : List ℕ}
+    → two_arguments previous word (length slot₀) ≡ Ok tt → two_arguments word next (length slot₀') ≡ Ok tt → length coded₀ ≡ 260
     → Interleaving previous word slot₀ slot r → Interleaving word next slot₀' slot' r' → Deinterleaving slot slot' coded₀ coded r''
-    → (wrote_answer r'' ≡ accepted tt) × (coded ≡ word)
+    → (r'' ≡ Ok tt) × (coded ≡ word)
 facch_slot_calls_round_trip previous word next r r' r'' {slot₀} {slot} {slot₀'} {slot'} {coded₀} {coded} f f' room i i' e =
     let s = slotted previous word r f i in
     let s' = slotted word next r' f' i' in

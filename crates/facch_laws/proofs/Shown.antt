@@ -1,6 +1,6 @@
 -- What the outputs of FACCH's coder show of its bits. The generators have g0 + g2 = D^2 + D^4 and (g0 + g2) (1 + D) + g2 D^2 = D^7: the first and third
 -- outputs of five steps in a row show five bits. After them one output of a step shows the next bit, as every generator taps the newest. Assumes nothing.
-use mathlib.Core.Path.{◌≡◌, refl, sym, ap, ap₂, subst, ◌∙◌}
+use mathlib.Core.Path.{◌≡◌, sym, ap, ap₂, subst, ◌∙◌}
 use mathlib.Core.Bool.{Bool, false}
 use mathlib.Core.List.{List, [], ◌∷◌}
 use Prim.Native.Nat.{ℕ, zero, suc, ◌+◌, ◌<◌}

@@ -1,22 +1,27 @@
--- `facch::word::encode` meets its contract: a refusal, or the coded bits of the word. Assumes nothing.
-use mathlib.Core.List.{[]}
+-- `facch::word::encode` meets its contract: the coded bits of the word. Assumes nothing.
+use mathlib.Core.List.{[], ◌∷◌}
+use mathlib.Core.Path.{ap, ap₂, sym, ◌∙◌}
+use Prim.Native.Nat.{ℕ}
+use Rattle.bits.specs.Arguments.{first_refusal}
+use Rattle.bits.specs.Bits.{all_binary}
 use Rattle.bits.proofs.Binary.{binary_bytes}
-use Rattle.bits.proofs.Writing.{declined_end, done_end}
+use Rattle.bits.proofs.Refusing.{passed_exact}
+use Rattle.bits.proofs.Writing.{done_end}
 use Rattle.words.proofs.Made.{flag_binary}
-use Rattle.facch.proofs.WordBits.{asks_word, word-coded}
+use Rattle.facch.proofs.WordBits.{binary_word, word-coded}
 use borrow.Author.Rules.{rules}
 use Rattle.facch.proofs.word.encode.Goals as goal
 
-pub returns-in-Refused : goal.returns-in-Refused
-returns-in-Refused c = declined_end c.encode_arguments-ready.ensures _ c.in-Refused.is
-
 pub complete-requires : goal.complete-requires
-complete-requires c = (search rules, flag_binary c.args.continuation _ (binary_bytes []))
+complete-requires c = (search rules, ap (λ (flag : ℕ). all_binary (flag ∷ [])) c.from.ensures ∙ flag_binary c.args.continuation _ (binary_bytes []))
 
 pub encode_word-requires : goal.encode_word-requires
-encode_word-requires c =
-    asks_word c.args.continuation c.args.message c.args.dvcc c.complete.ensures _ c.encode_arguments-ready.ensures c.in_default.is
+encode_word-requires c = (
+  binary_word c.args.continuation c.args.message c.args.dvcc c.from.ensures c.complete.ensures,
+  sym (passed_exact 260 _ (sym c.exact.ensures ∙ c.in_ok-exact.was)),
+)
 
 pub returns : goal.returns
 returns c =
-    done_end c.encode_arguments-ready.ensures c.in_default.is (word-coded c.args.continuation c.args.message c.args.dvcc c.complete.ensures c.encode_word.ensures)
+    done_end (ap₂ first_refusal c.exact.ensures c.below.ensures) (ap₂ first_refusal c.in_ok-exact.was c.in_ok-below.was)
+    (word-coded c.args.continuation c.args.message c.args.dvcc c.from.ensures c.complete.ensures c.encode_word.ensures)
