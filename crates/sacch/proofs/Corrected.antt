@@ -3,12 +3,11 @@ use mathlib.Core.Path.{◌≡◌, refl}
 use mathlib.Core.Bool.{Bool}
 use mathlib.Core.List.{List}
 use Prim.Native.Nat.{ℕ, ◌≤◌}
-use Rattle.bits.specs.Arguments.{first_refusal, below_of}
-use Rattle.bits.specs.Pushes.{PushAnswer}
-use Rattle.bits.specs.Pushes as push
-use Rattle.bits.specs.Refusals.{Answer, accepted, refused}
-use Rattle.bits.specs.declared.arguments.Arguments.{Arguments}
-use Rattle.bits.specs.declared.arguments.Arguments.TheVariants.{Passed, Refused}
+use Rattle.std.specs.Prelude.{Result, Ok, Err}
+use Rattle.bits.specs.declared.Refusal.{Refusal}
+use Rattle.sacch_receiver.specs.declared.ReceiveOutcome.{ReceiveOutcome}
+use Rattle.sacch_receiver.specs.declared.ReceiveOutcome.TheVariants as outcome
+use Rattle.bits.specs.Arguments.{Arguments, first_refusal, below_of}
 use Rattle.sacch_decoder.specs.Decoding.{decode_of}
 use Rattle.sacch_decoder.specs.declared.SacchWord.{SacchWord}
 use Rattle.sacch_decoder.proofs.Meaning.{corrected_le}
@@ -18,15 +17,15 @@ use Rattle.sacch_receiver.specs.declared.SacchReceiver.{SacchReceiver}
 use Rattle.sacch.proofs.Pushes.{step_answer}
 
 -- where an answer is a word, its corrected bits are among 132
-abbrev pub CorrectedIn : PushAnswer SacchWord → Type 0
-CorrectedIn (push.accepted w) = w.corrected ≤ 132
-CorrectedIn push.pending = Unit {0}
-CorrectedIn (push.rejected why) = Unit {0}
-CorrectedIn (push.refused why) = Unit {0}
+abbrev pub CorrectedIn : Result ReceiveOutcome Refusal → Type 0
+CorrectedIn (Ok (outcome.Word w)) = w.corrected ≤ 132
+CorrectedIn (Ok outcome.Pending) = Unit {0}
+CorrectedIn (Ok (outcome.Rejected why)) = Unit {0}
+CorrectedIn (Err why) = Unit {0}
 
-trial_corrected : (received : List Bool) (dvcc : ℕ) (x : Answer SacchWord) → decode_of received dvcc ≡ x → CorrectedIn (trial_answer x)
-trial_corrected received dvcc (accepted word) e = corrected_le received dvcc e
-trial_corrected received dvcc (refused why) e = tt
+trial_corrected : (received : List Bool) (dvcc : ℕ) (x : Result SacchWord Refusal) → decode_of received dvcc ≡ x → CorrectedIn (trial_answer x)
+trial_corrected received dvcc (Ok word) e = corrected_le received dvcc e
+trial_corrected received dvcc (Err why) e = tt
 
 rows_corrected : (rows : List ℕ) (dvcc : ℕ) → CorrectedIn (trial_answer (decode_rows rows dvcc))
 unfolding decode_rows
@@ -37,5 +36,5 @@ unfolding push_of
 push_corrected r field dvcc = by (first_refusal (receiver_state r) (below_of 4096 field))
   where
     by : (l : Arguments) → CorrectedIn (pushing l r (step_of r field dvcc)).answer
-    by (Refused why) = tt
-    by Passed = step_answer CorrectedIn tt rows_corrected r field dvcc
+    by (Err why) = tt
+    by (Ok tt) = step_answer CorrectedIn tt rows_corrected r field dvcc

@@ -1,17 +1,16 @@
 -- The encoder over a list of calls: its fields are the diagonal of its rows. Assumes nothing.
 use mathlib.Core.Path.{◌≡◌, refl, sym, ◌∙◌, ap, subst}
-use mathlib.Core.Bool.{Bool, true, false, cond, false≢true}
+use mathlib.Core.Bool.{true, false, false≢true}
 use mathlib.Core.List.{List, [], ◌∷◌, ◌++◌, map}
 use Prim.Native.Nat.{ℕ, zero, suc, ◌+◌, ◌-◌, ◌^◌, ◌≤◌, ◌<◌}
 use native.Mathlib.Decide.{dec_lt}
 use native.Mathlib.Nat.{zero-add}
 use native.Mathlib.Omega.{arith}
-use lib.ListN.{get_or, length, replicate}
-use Rattle.bits.specs.Arguments.{first_refusal, below_of}
+use lib.ListN.{get_or, length}
+use Rattle.std.specs.Prelude.{Result, Ok, Err}
+use Rattle.bits.specs.declared.Refusal.{Refusal}
+use Rattle.bits.specs.Arguments.{Arguments, first_refusal, below_of}
 use Rattle.bits.specs.Bits.{all_below}
-use Rattle.bits.specs.Refusals.{accepted}
-use Rattle.bits.specs.declared.arguments.Arguments.{Arguments}
-use Rattle.bits.specs.declared.arguments.Arguments.TheVariants.{Passed, Refused}
 use Rattle.bits.proofs.Below.{below_head, below_tail}
 use Rattle.bits.proofs.Ring.{Holds, holds_next}
 use Rattle.sacch_interleaver.proofs.Diagonal.{diagonal, field_of_lem}
@@ -20,7 +19,7 @@ use Rattle.sacch_encoder.specs.Words.{coded_row, memory_after}
 use Rattle.sacch_encoder.specs.Encoder.{encoder_state, encoded, field_now, encoded_all, fields_from, sending, Sent, encode_bits_of, encode_word_of}
 use Rattle.sacch_encoder.specs.declared.SacchEncoder.{SacchEncoder}
 use Rattle.sacch_encoder.proofs.Rows.{row_below}
-use Rattle.sacch.specs.Calls.{EncoderCall, word, bits, Given, Words, no_words, sent, refused_call, is_refused, called, fields_sent}
+use Rattle.sacch.specs.Calls.{EncoderCall, word, bits, Given, Words, no_words, sent, refused_call, is_refused, one_field, fields_in, called, fields_sent}
 use Rattle.sacch.specs.Listening.{rows_from, sixes_for, sixes_for_all, after_word}
 use Rattle.sacch.proofs.Fitting.{FittingEncoder, encoder_fit, encoded_fits, all_fit, call_passed, call_refused}
 
@@ -37,16 +36,16 @@ memory_all (six ∷ sixes) e = memory_all sixes (encoded e six)
 -- ---- one call
 module _ (dvcc : ℕ) (g : Given) {e : SacchEncoder} (f : FittingEncoder e) where
   pub word_sent_lem : g.message < 2 ^ 48
-      → called e (word dvcc g) ≡ record { answer = accepted tt; encoder = encoded_all e (sixes_for dvcc g); made = fields_from e (sixes_for dvcc g) }
+      → called e (word dvcc g) ≡ record { answer = Ok (fields_from e (sixes_for dvcc g)); encoder = encoded_all e (sixes_for dvcc g) }
   unfolding encode_word_of
   word_sent_lem h =
-      ap (λ (l : Arguments). sending l e (replicate 11 0) (encoded_all e (sixes_for dvcc g)) (fields_from e (sixes_for dvcc g)))
+      ap (λ (l : Arguments). sending l e (encoded_all e (sixes_for dvcc g)) (fields_from e (sixes_for dvcc g)))
       (call_passed (encoder_fit f) (2 ^ 48) g.message h)
 
   word_refused : 2 ^ 48 ≤ g.message → is_refused (called e (word dvcc g)).answer ≡ true
   unfolding encode_word_of
   word_refused h =
-      ap (λ (l : Arguments). is_refused (sending l e (replicate 11 0) (encoded_all e (sixes_for dvcc g)) (fields_from e (sixes_for dvcc g))).answer)
+      ap (λ (l : Arguments). is_refused (sending l e (encoded_all e (sixes_for dvcc g)) (fields_from e (sixes_for dvcc g))).answer)
       (call_refused (encoder_fit f) (2 ^ 48) g.message h)
 
   -- refused exactly where the message has more than 48 bits
@@ -64,16 +63,21 @@ module _ (dvcc : ℕ) (g : Given) {e : SacchEncoder} (f : FittingEncoder e) wher
   word_fits h = subst (λ (s : Sent (List ℕ)). FittingEncoder s.encoder) (sym (word_sent_lem h)) (all_fit (sixes_for dvcc g) f)
 
 -- a refused one leaves the encoder
-sending_leaves : {A : Type 0} (l : Arguments) (e e' : SacchEncoder) (nothing made : A)
-    → is_refused (sending l e nothing e' made).answer ≡ true → (sending l e nothing e' made).encoder ≡ e
-sending_leaves (Refused why) e e' nothing made r = refl
-sending_leaves Passed e e' nothing made r = absurd (false≢true r)
+sending_leaves : {A : Type 0} (l : Arguments) (e e' : SacchEncoder) (made : A) → is_refused (sending l e e' made).answer ≡ true → (sending l e e' made).encoder ≡ e
+sending_leaves (Err why) e e' made r = refl
+sending_leaves (Ok tt) e e' made r = absurd (false≢true r)
+
+-- that the one field of an answer is refused is that the answer is
+one_refused : (answer : Result ℕ Refusal) → is_refused (one_field answer) ≡ is_refused answer
+one_refused (Ok field) = refl
+one_refused (Err why) = refl
 
 pub refused_leaves : (e : SacchEncoder) (call : EncoderCall) → is_refused (called e call).answer ≡ true → (called e call).encoder ≡ e
 unfolding encode_word_of encode_bits_of
 refused_leaves e (word dvcc g) r =
-    sending_leaves (first_refusal (encoder_state e) (below_of (2 ^ 48) g.message)) e (encoded_all e (sixes_for dvcc g)) (replicate 11 0) (fields_from e (sixes_for dvcc g)) r
-refused_leaves e (bits six) r = sending_leaves (first_refusal (encoder_state e) (below_of 64 six)) e (encoded e six) 0 (field_now (encoded e six)) r
+    sending_leaves (first_refusal (encoder_state e) (below_of (2 ^ 48) g.message)) e (encoded_all e (sixes_for dvcc g)) (fields_from e (sixes_for dvcc g)) r
+refused_leaves e (bits six) r =
+    sending_leaves (first_refusal (encoder_state e) (below_of 64 six)) e (encoded e six) (field_now (encoded e six)) (sym (one_refused (encode_bits_of e six).answer) ∙ r)
 
 -- ---- a list of calls
 fields_append : (sixes others : List ℕ) (e : SacchEncoder) → fields_from e (sixes ++ others) ≡ fields_from e sixes ++ fields_from (encoded_all e sixes) others
@@ -81,19 +85,22 @@ unfolding fields_from encoded_all
 fields_append [] others e = refl
 fields_append (six ∷ sixes) others e = ap (◌∷◌ (field_now (encoded e six))) (fields_append sixes others (encoded e six))
 
+refused_adds : (answer : Result (List ℕ) Refusal) → is_refused answer ≡ true → fields_in answer ≡ []
+refused_adds (Ok fields) r = absurd (false≢true r)
+refused_adds (Err why) r = refl
+
 pub fields_sent_lem : (dvcc : ℕ) {e : SacchEncoder} {calls : List EncoderCall} {given : List Given} → Words dvcc e calls given → FittingEncoder e
     → fields_sent e calls ≡ fields_from e (sixes_for_all dvcc given)
 unfolding fields_sent fields_from sixes_for_all
 fields_sent_lem dvcc no_words f = refl
 fields_sent_lem dvcc (sent {e} {calls} {given} g n words) f =
     let h : g.message < 2 ^ 48 = word-taken dvcc g f n in
-    let c : Sent (List ℕ) = called e (word dvcc g) in
-    ap (λ (l : List ℕ). cond (is_refused c.answer) [] c.made ++ l) (fields_sent_lem dvcc words (word_fits dvcc g f h))
-    ∙ ap (λ (s : Sent (List ℕ)). cond (is_refused s.answer) [] s.made ++ fields_from s.encoder (sixes_for_all dvcc given)) (word_sent_lem dvcc g f h)
+    ap (λ (l : List ℕ). fields_in (called e (word dvcc g)).answer ++ l) (fields_sent_lem dvcc words (word_fits dvcc g f h))
+    ∙ ap (λ (s : Sent (List ℕ)). fields_in s.answer ++ fields_from s.encoder (sixes_for_all dvcc given)) (word_sent_lem dvcc g f h)
     ∙ sym (fields_append (sixes_for dvcc g) (sixes_for_all dvcc given) e)
 fields_sent_lem dvcc (refused_call {e} {calls} {given} call r words) f =
     let left : (called e call).encoder ≡ e = refused_leaves e call r in
-    ap (λ (b : Bool). cond b [] (called e call).made ++ fields_sent (called e call).encoder calls) r
+    ap (λ (l : List ℕ). l ++ fields_sent (called e call).encoder calls) (refused_adds (called e call).answer r)
     ∙ fields_sent_lem dvcc words (subst FittingEncoder (sym left) f) ∙ ap (λ (d : SacchEncoder). fields_from d (sixes_for_all dvcc given)) left
 
 abbrev pub message_given : Given → ℕ

@@ -9,8 +9,8 @@ use native.Mathlib.Decide.{ℕ_discrete}
 use native.Mathlib.Nat.{zero-add, suc-add, add_assoc}
 use lib.ListN.{length, get_or, set, take, length-append, length-reverse}
 use lib.Seq.{length-take-le, take-suc, take_all}
+use Rattle.std.specs.Prelude.{Err}
 use Rattle.bits.specs.Bits.{◌⊕◌, tally, disagreement, disagreements}
-use Rattle.bits.specs.Refusals.{refused}
 use Rattle.bits.specs.declared.Refusal.TheVariants as refusal
 use Rattle.bits.proofs.Binary.{differ_same, differ_other}
 use Rattle.bits.proofs.Tally.{disagreements_self, disagreements_none}
@@ -162,7 +162,7 @@ module _ (s : ℕ) (hs : s < 32) (v : List Bool) (size : length v ≡ 65) (x : B
 
 -- any word of 66 bits, from any memory
 pub last_of_66 : (s : ℕ) → s < 32 → (w : List Bool) → length w ≡ 66 → (k : ℕ) → 130 ≤ k → k < 132 → (dvcc : ℕ)
-    → decode_of (flipped k (coded dcch (memory_high s) w)) dvcc ≡ refused refusal.Ambiguous
+    → decode_of (flipped k (coded dcch (memory_high s) w)) dvcc ≡ Err refusal.Ambiguous
 last_of_66 s hs w size k lo hi dvcc =
     let v : List Bool = take 65 w in
     let x : Bool = get_or w 65 false in
@@ -174,5 +174,5 @@ last_of_66 s hs w size k lo hi dvcc =
 
 -- a message's word, with either bit of its last pair wrong
 pub last_pair : (continuation : Bool) (message dvcc s : ℕ) → s < 32 → (k : ℕ) → 130 ≤ k → k < 132
-    → decode_of (flipped k (coded dcch (memory_high s) (word_of continuation message dvcc))) dvcc ≡ refused refusal.Ambiguous
+    → decode_of (flipped k (coded dcch (memory_high s) (word_of continuation message dvcc))) dvcc ≡ Err refusal.Ambiguous
 last_pair continuation message dvcc s hs k lo hi = last_of_66 s hs (word_of continuation message dvcc) (word-length continuation message dvcc) k lo hi dvcc

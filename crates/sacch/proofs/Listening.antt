@@ -5,9 +5,10 @@ use Prim.Native.Nat.{ℕ, suc, ◌+◌, ◌-◌, ◌*◌, ◌/◌, ◌%◌, ◌�
 use native.Mathlib.Omega.{arith}
 use lib.ListN.{get_or, length, take, drop, length-take, length-drop}
 use lib.Seq.{length-take-le, get_or-take, get_or-drop}
-use Rattle.bits.specs.Refusals.{accepted}
-use Rattle.bits.specs.Pushes.{PushAnswer}
-use Rattle.bits.specs.Pushes as push
+use Rattle.std.specs.Prelude.{Result, Ok}
+use Rattle.bits.specs.declared.Refusal.{Refusal}
+use Rattle.sacch_receiver.specs.declared.ReceiveOutcome.{ReceiveOutcome}
+use Rattle.sacch_receiver.specs.declared.ReceiveOutcome.TheVariants as outcome
 use Rattle.bits.proofs.Listed.{is_listed}
 use Rattle.sacch_interleaver.proofs.Diagonal.{diagonal, diagonal_below}
 use Rattle.sacch_encoder.specs.Encoder.{fields_from}
@@ -103,7 +104,7 @@ module _ {dvcc a : ℕ} {e : SacchEncoder} {calls : List EncoderCall} {given : L
       (λ q hq. part_at 11 (a + t - 1) sent_rows q hq ∙ sym (on_air_then e sixes (a + t - 1 + q) (a + (t + q) + 11) (omega arith)) ∙ sym (row_back (t + q)))
 
   on : (t : ℕ) → t < length fields - 21 → (a + t) % 11 ≡ 1
-      → ((a + t) / 11 < length given) × (decode_rows (rows_tried t) dvcc ≡ accepted (word_sent dvcc e given ((a + t) / 11)))
+      → ((a + t) / 11 < length given) × (decode_rows (rows_tried t) dvcc ≡ Ok (word_sent dvcc e given ((a + t) / 11)))
   on t h b =
       let reached : a - 1 + length fields ≤ 11 * length given = reach (omega arith) in
       let start : a + t - 1 ≡ 11 * ((a + t) / 11) = omega arith in
@@ -114,13 +115,13 @@ module _ {dvcc a : ℕ} {e : SacchEncoder} {calls : List EncoderCall} {given : L
       )
 
   -- ---- the answers of the fields from the 22nd on are those of the trials
-  abbrev out : ℕ → PushAnswer SacchWord
+  abbrev out : ℕ → Result ReceiveOutcome Refusal
   out t = (step_of (receiver_at dvcc r field (11 + (10 + t))) (field (11 + (10 + t))) dvcc).answer
 
   answer_is : (n t : ℕ) → n ≡ t + 22 → n ≤ length fields → answer r pushes n ≡ out t
   answer_is n t h l =
       let e : n - 1 ≡ 11 + (10 + t) = omega arith in
-      ap (λ (k : ℕ). get_or (answers r pushes) k push.pending) e
+      ap (λ (k : ℕ). get_or (answers r pushes) k (Ok outcome.Pending)) e
       ∙ answers_at dvcc listened.pushed receiver field field_at (11 + (10 + t)) (omega arith)
 
   module _ (no_false : NoFalseWord dvcc a e given (length fields)) where
@@ -134,11 +135,11 @@ module _ {dvcc a : ℕ} {e : SacchEncoder} {calls : List EncoderCall} {given : L
     }
 
     trials : Trials a (length fields - 21) (receiver_at dvcc r field 11).phase (word_sent dvcc e given) (λ (t : ℕ). decode_rows (rows_tried t) dvcc) out
-        (λ (t : ℕ). (receiver_at dvcc r field (11 + (10 + t))).lock)
-    trials = record { windows = windows; first = (late_fits dvcc field receiver field_below 10).fit.lock; locking = trials_run dvcc field receiver field_below }
+        (λ (t : ℕ). (receiver_at dvcc r field (11 + (10 + t))).locked_phase)
+    trials = record { windows = windows; first = (late_fits dvcc field receiver field_below 10).fit.stored.lock; locking = trials_run dvcc field receiver field_below }
 
     -- where field n gives a word
-    word_at : (n : ℕ) → 22 ≤ n → n ≤ length fields → (w : SacchWord) → answer r pushes n ≡ push.accepted w → out (n - 22) ≡ push.accepted w
+    word_at : (n : ℕ) → 22 ≤ n → n ≤ length fields → (w : SacchWord) → answer r pushes n ≡ Ok (outcome.Word w) → out (n - 22) ≡ Ok (outcome.Word w)
     word_at n h l w o = sym (answer_is n (n - 22) (omega arith) l) ∙ o
 
     promised : Promised dvcc a e given r pushes (length fields)

@@ -4,7 +4,8 @@ use mathlib.Core.List.{List}
 use Prim.Native.Nat.{ℕ, zero, suc, ◌+◌, ◌-◌, ◌*◌, ◌/◌, ◌≤◌, ◌<◌}
 use native.Mathlib.Omega.{arith}
 use lib.ListN.{length}
-use Rattle.bits.specs.Pushes as push
+use Rattle.std.specs.Prelude.{Ok}
+use Rattle.sacch_receiver.specs.declared.ReceiveOutcome.TheVariants as outcome
 use Rattle.sacch_encoder.specs.declared.SacchEncoder.{SacchEncoder}
 use Rattle.sacch_decoder.specs.declared.SacchWord.{SacchWord}
 use Rattle.sacch_receiver.specs.declared.SacchReceiver.{SacchReceiver}
@@ -14,15 +15,15 @@ use Rattle.sacch.specs.Listening.{word_sent, Begins, answer, Promised}
 module _ {dvcc a N : ℕ} {e : SacchEncoder} {given : List Given} {r : SacchReceiver} {pushes : List Push} (promise : Promised dvcc a e given r pushes N) where
   -- field n gives the word of index j (from 0)
   abbrev pub Gives : ℕ → ℕ → Type 0
-  Gives n j = (j < length given) × (answer r pushes n ≡ push.accepted (word_sent dvcc e given j))
+  Gives n j = (j < length given) × (answer r pushes n ≡ Ok (outcome.Word (word_sent dvcc e given j)))
 
-  next-after : (f : ℕ) → 22 ≤ f → f ≤ N → (w : SacchWord) → answer r pushes f ≡ push.accepted w → (k : ℕ) → f + 11 * k ≤ N
+  next-after : (f : ℕ) → 22 ≤ f → f ≤ N → (w : SacchWord) → answer r pushes f ≡ Ok (outcome.Word w) → (k : ℕ) → f + 11 * k ≤ N
       → Gives (f + 11 * k) ((a + f - 22) / 11 + k)
   next-after f h l w o zero hl =
       let s = promise.only_sent f h l w o in
       let here : f + 11 * 0 ≡ f = omega arith in
       let same : (a + f - 22) / 11 + 0 ≡ (a + f - 22) / 11 = omega arith in
-      rw (here, same) (s.1, o ∙ ap push.accepted s.2)
+      rw (here, same) (s.1, o ∙ ap (λ (x : SacchWord). Ok (outcome.Word x)) s.2)
   next-after f h l w o (suc k) hl =
       let begins : Begins (a + f - 22) = (promise.only_sent f h l w o).0 in
       let same : (a + (f + 11 * suc k) - 22) / 11 ≡ (a + f - 22) / 11 + suc k = omega arith in

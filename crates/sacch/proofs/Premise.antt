@@ -9,9 +9,9 @@ use borrow.Author.Tests.{ne_eqb}
 use lib.Dec.{eqb, T}
 use lib.ListN.{get_or, length, take, drop, replicate, length-append, length-drop}
 use lib.Seq.{length-take-le, take-nil, drop-nil, take-append-add, drop-append-add}
+use Rattle.std.specs.Prelude.{Ok}
 use Rattle.bits.specs.Bits.{all_below, bits}
 use Rattle.bits.specs.Numbers.{packed, unpacked}
-use Rattle.bits.specs.Refusals.{accepted}
 use Rattle.bits.proofs.Below.{below_none, below_cons, below_take}
 use Rattle.bits.proofs.Binary.{bits-bytes}
 use Rattle.bits.proofs.Packed.{unpacked-length}
@@ -125,10 +125,10 @@ module _ (dvcc : ℕ) (e : SacchEncoder) (given : List Given) (m : ℕ) (small :
 
 -- ---- the premise
 module _ (w : List Bool) (dvcc : ℕ) where
-  accepted_word : {x : SacchWord} → finished w 0 dvcc ≡ accepted x → is_word w dvcc ≡ true
+  accepted_word : {x : SacchWord} → finished w 0 dvcc ≡ Ok x → is_word w dvcc ≡ true
   accepted_word e = let t = finished-taken w 0 dvcc e in rw (t.reserved, t.right)
 
-  other_word : ((x : SacchWord) → finished w 0 dvcc ≡ accepted x → ⊥) → is_word w dvcc ≡ false
+  other_word : ((x : SacchWord) → finished w 0 dvcc ≡ Ok x → ⊥) → is_word w dvcc ≡ false
   other_word none = by (get_or w 1 false) refl (word_valid 2 w dvcc) refl
     where
       by : (reserved : Bool) → get_or w 1 false ≡ reserved → (valid : Bool) → word_valid 2 w dvcc ≡ valid → (not reserved && valid) ≡ false
@@ -180,7 +180,7 @@ fields_twelve (six ∷ sixes) e =
     ∙ fields_twelve sixes (encoded e six)
 
 module _ (e : SacchEncoder) (r : SacchReceiver) (encoder : encoder_fits e ≡ true) (encoder_rows : length e.rows ≡ 12)
-    (receiver : receiver_fits r ≡ true) (receiver_fields : length r.fields ≡ 12) (receiver_rows : length r.rows ≡ 11) where
+    (receiver : receiver_fits r ≡ true) (receiver_fields : length r.deinterleaver.fields ≡ 12) (receiver_rows : length r.rows ≡ 11) where
   abbrev sender : FittingEncoder e
   sender = record { fit = fit_of e encoder; rows_length = encoder_rows }
 

@@ -4,8 +4,8 @@ use mathlib.Core.Bool.{Bool, false}
 use mathlib.Core.List.{[], ◌∷◌, reverse}
 use Prim.Native.Nat.{ℕ, ◌^◌, ◌<◌}
 use lib.ListN.{length, take}
+use Rattle.std.specs.Prelude.{Ok}
 use Rattle.bits.specs.Numbers.{packed}
-use Rattle.bits.specs.Refusals.{accepted}
 use Rattle.coding.specs.Codes.{coded, dcch}
 use Rattle.coding.specs.Registers.{memory_high}
 use Rattle.words.specs.Words.{made_of}
@@ -27,8 +27,8 @@ module _ (continuation : Bool) (message dvcc : ℕ) where
       (made_message (continuation ∷ false ∷ []) message dvcc refl h)
 
   pub sacch_round_trip : (s : ℕ) → s < 32 → message < 2 ^ 48 → decode_of (coded dcch (memory_high s) (word_of continuation message dvcc)) dvcc
-      ≡ accepted (record { continuation = continuation; message = message; corrected = 0; ending = packed (take 5 (reverse (word_of continuation message dvcc))) })
+      ≡ Ok (record { continuation = continuation; message = message; corrected = 0; ending = packed (take 5 (reverse (word_of continuation message dvcc))) })
   unfolding made_of
   sacch_round_trip s hs h =
       as_sent s hs (word_of continuation message dvcc) word-length dvcc
-      ∙ taken-finished (word_of continuation message dvcc) 0 dvcc refl (made_valid (continuation ∷ false ∷ []) message dvcc 2 refl) ∙ ap accepted (content_own h)
+      ∙ taken-finished (word_of continuation message dvcc) 0 dvcc refl (made_valid (continuation ∷ false ∷ []) message dvcc 2 refl) ∙ ap Ok (content_own h)

@@ -6,21 +6,20 @@ use Prim.Native.Nat.{ℕ, zero, suc, ◌+◌, ◌-◌, ◌≤◌, ◌<◌, min}
 use native.Mathlib.Decide.{dec_lt}
 use native.Mathlib.Omega.{arith}
 use lib.ListN.{get_or, length}
+use Rattle.std.specs.Prelude.{None, Result, Ok, Err}
+use Rattle.sacch_receiver.specs.declared.ReceiveOutcome.{ReceiveOutcome}
+use Rattle.sacch_receiver.specs.declared.ReceiveOutcome.TheVariants as outcome
 use Rattle.bits.specs.Bits.{all_below}
 use Rattle.bits.specs.Places.{listed}
-use Rattle.bits.specs.Refusals.{Answer, accepted, refused}
-use Rattle.bits.specs.Pushes.{PushAnswer}
-use Rattle.bits.specs.Pushes as push
 use Rattle.bits.specs.declared.Refusal.{Refusal}
 use Rattle.bits.proofs.Listed.{listed_same}
 use Rattle.sacch_interleaver.specs.Diagonal.{bit_of}
 use Rattle.sacch_interleaver.proofs.Diagonal.{twelve_same}
 use Rattle.sacch_decoder.specs.declared.SacchWord.{SacchWord}
-use Rattle.sacch_interleaver.specs.Deinterleaver.{deinterleaver_fits, field_stored, row_heard}
-use Rattle.sacch_receiver.specs.Receiver.{fresh_receiver, receiver_fits, with_fields, field_taken, row_stored, locked, trial_answer, tried, step_of, Moved}
+use Rattle.sacch_interleaver.specs.Deinterleaver.{deinterleaver_fits, field_stored, fresh_deinterleaver, row_heard}
+use Rattle.sacch_receiver.specs.Receiver.{fresh_receiver, receiver_fits, rows_fit, field_taken, row_stored, locked, trial_answer, tried, step_of, Moved}
 use Rattle.sacch_receiver.specs.Stored.{decode_rows}
 use Rattle.sacch_receiver.specs.declared.SacchReceiver.{SacchReceiver}
-use Rattle.sacch_receiver.specs.declared.stored.Lock.TheVariants.{Unlocked}
 use Rattle.sacch_receiver.proofs.Fitting.{fit_of}
 use Rattle.sacch.specs.Calls.{Push, Fields, answers}
 use Rattle.sacch.specs.Listening.{answer}
@@ -31,16 +30,16 @@ use Rattle.sacch.proofs.ReceiverRun.{rowed, step_waits, tried_waits, receiver_at
 use Rattle.sacch.proofs.Pushes.{answers_at, fields_below}
 
 -- a trial ends in a word or in a rejection, so that a schedule settles every answer
-ends : (x : Answer SacchWord) → ((w : SacchWord) × (trial_answer x ≡ push.accepted w)) ⊎ ((why : Refusal) × (trial_answer x ≡ push.rejected why))
-ends (accepted w) = inl (w, refl)
-ends (refused why) = inr (why, refl)
+ends : (x : Result SacchWord Refusal) → ((w : SacchWord) × (trial_answer x ≡ Ok (outcome.Word w))) ⊎ ((why : Refusal) × (trial_answer x ≡ Ok (outcome.Rejected why)))
+ends (Ok w) = inl (w, refl)
+ends (Err why) = inr (why, refl)
 
 pub trial_ends : (dvcc : ℕ) (fields : List ℕ) (n : ℕ)
-    → ((w : SacchWord) × (trial_heard dvcc fields n ≡ push.accepted w)) ⊎ ((why : Refusal) × (trial_heard dvcc fields n ≡ push.rejected why))
+    → ((w : SacchWord) × (trial_heard dvcc fields n ≡ Ok (outcome.Word w))) ⊎ ((why : Refusal) × (trial_heard dvcc fields n ≡ Ok (outcome.Rejected why)))
 trial_ends dvcc fields n = ends (decode_rows (listed 11 (λ (i : ℕ). row_heard fields (n - 10 + i))) dvcc)
 
 fresh_fits : Fitting fresh_receiver
-unfolding fresh_receiver receiver_fits deinterleaver_fits all_below
+unfolding fresh_receiver fresh_deinterleaver receiver_fits rows_fit deinterleaver_fits all_below
 fresh_fits = record { fit = fit_of fresh_receiver refl; fields_length = refl; rows_length = refl }
 
 module _ (dvcc : ℕ) {pushes : List Push} {fields : List ℕ} (heard : Fields dvcc fresh_receiver pushes fields) where
@@ -59,53 +58,53 @@ module _ (dvcc : ℕ) {pushes : List Push} {fields : List ℕ} (heard : Fields d
   answer_is : (n i : ℕ) → n ≡ suc i → n ≤ length fields → answer fresh_receiver pushes n ≡ (step_of (at i) (stream i) dvcc).answer
   answer_is n i e h =
       let here : n - 1 ≡ i = omega arith in
-      ap (λ (k : ℕ). get_or (answers fresh_receiver pushes) k push.pending) here ∙ answers_at dvcc heard fresh_fits stream (λ k hk. refl) i (omega arith)
+      ap (λ (k : ℕ). get_or (answers fresh_receiver pushes) k (Ok outcome.Pending)) here ∙ answers_at dvcc heard fresh_fits stream (λ k hk. refl) i (omega arith)
 
   -- ---- before the twelfth field: no row
-  early_step : (i : ℕ) → i < 11 → step_of (at i) (stream i) dvcc ≡ record { answer = push.pending; receiver = field_taken (at i) (stream i) }
-  unfolding fresh_receiver
-  early_step i h = let r : (at i).received ≡ min 12 (fresh_receiver.received + i) = at_received dvcc stream fresh_fits below i in step_waits (at i) (stream i) dvcc (omega arith)
+  early_step : (i : ℕ) → i < 11 → step_of (at i) (stream i) dvcc ≡ record { answer = Ok outcome.Pending; receiver = field_taken (at i) (stream i) }
+  unfolding fresh_receiver fresh_deinterleaver
+  early_step i h = let r : (at i).deinterleaver.received ≡ min 12 (fresh_receiver.deinterleaver.received + i) = at_received dvcc stream fresh_fits below i in step_waits (at i) (stream i) dvcc (omega arith)
 
-  early : (i : ℕ) → i ≤ 11 → ((at i).available ≡ 0) × ((at i).lock ≡ Unlocked)
-  unfolding fresh_receiver with_fields field_stored
+  early : (i : ℕ) → i ≤ 11 → ((at i).available ≡ 0) × ((at i).locked_phase ≡ None)
+  unfolding fresh_receiver field_stored
   early zero h = (refl, refl)
   early (suc i) h =
-      let s : at (suc i) ≡ field_taken (at i) (stream i) = ap (λ (m : Moved). m.receiver) (early_step i (omega arith)) in
+      let s : at (suc i) ≡ field_taken (at i) (stream i) = ap (λ (m : Moved ReceiveOutcome). m.receiver) (early_step i (omega arith)) in
       let e = early i (omega arith) in
-      (ap (λ (r : SacchReceiver). r.available) s ∙ e.0, ap (λ (r : SacchReceiver). r.lock) s ∙ e.1)
+      (ap (λ (r : SacchReceiver). r.available) s ∙ e.0, ap (λ (r : SacchReceiver). r.locked_phase) s ∙ e.1)
 
   -- ---- before the 22nd: fewer than eleven
-  few : (t : ℕ) → t < 10 → tried (full t) dvcc ≡ record { answer = push.pending; receiver = full t }
-  unfolding rowed row_stored with_fields field_stored
+  few : (t : ℕ) → t < 10 → tried (full t) dvcc ≡ record { answer = Ok outcome.Pending; receiver = full t }
+  unfolding rowed row_stored field_stored
   few t h =
       let a : (at (11 + t)).available ≡ min 11 ((at (11 + 0)).available + t) = late_available dvcc stream fresh_fits below t in
       let z : (at 11).available ≡ 0 = (early 11 (omega arith)).0 in
       tried_waits (full t) dvcc (omega arith)
 
-  still_unlocked : (t : ℕ) → t ≤ 10 → (at (11 + t)).lock ≡ Unlocked
-  unfolding rowed row_stored with_fields field_stored locked
+  still_unlocked : (t : ℕ) → t ≤ 10 → (at (11 + t)).locked_phase ≡ None
+  unfolding rowed row_stored field_stored locked
   still_unlocked zero h = (early 11 (omega arith)).1
   still_unlocked (suc t) h =
-      ap (λ (r : SacchReceiver). r.lock) (late_next dvcc stream fresh_fits below t)
-      ∙ ap (λ (m : Moved). m.receiver.lock) (few t (omega arith)) ∙ still_unlocked t (omega arith)
+      ap (λ (r : SacchReceiver). r.locked_phase) (late_next dvcc stream fresh_fits below t)
+      ∙ ap (λ (m : Moved ReceiveOutcome). m.receiver.locked_phase) (few t (omega arith)) ∙ still_unlocked t (omega arith)
 
-  pending_early : (n i : ℕ) → n ≡ suc i → n < 22 → n ≤ length fields → answer fresh_receiver pushes n ≡ push.pending
+  pending_early : (n i : ℕ) → n ≡ suc i → n < 22 → n ≤ length fields → answer fresh_receiver pushes n ≡ Ok outcome.Pending
   pending_early n i e h l = answer_is n i e l ∙ elim (dec_lt i 11) [
-    | yes b ↦ ap (λ (m : Moved). m.answer) (early_step i b)
+    | yes b ↦ ap (λ (m : Moved ReceiveOutcome). m.answer) (early_step i b)
     | no b ↦
         let t : 11 + (i - 11) ≡ i = omega arith in
         ap (λ (k : ℕ). (step_of (at k) (stream k) dvcc).answer) (sym t)
-        ∙ ap (λ (m : Moved). m.answer) (late_step dvcc stream fresh_fits below (i - 11) ∙ few (i - 11) (omega arith))
+        ∙ ap (λ (m : Moved ReceiveOutcome). m.answer) (late_step dvcc stream fresh_fits below (i - 11) ∙ few (i - 11) (omega arith))
   ]
 
   -- ---- from the 22nd on
-  abbrev rows : ℕ → Answer SacchWord
+  abbrev rows : ℕ → Result SacchWord Refusal
   rows s = decode_rows (window dvcc stream fresh_fits below s) dvcc
 
-  abbrev out : ℕ → PushAnswer SacchWord
+  abbrev out : ℕ → Result ReceiveOutcome Refusal
   out s = (step_of (at (11 + (10 + s))) (stream (11 + (10 + s))) dvcc).answer
 
-  steps : Locking (at (11 + 0)).phase rows out (λ (s : ℕ). (at (11 + (10 + s))).lock)
+  steps : Locking (at (11 + 0)).phase rows out (λ (s : ℕ). (at (11 + (10 + s))).locked_phase)
   steps = trials_run dvcc stream fresh_fits below
 
   trial_is : (n s : ℕ) → n ≡ s + 22 → trial_answer (rows s) ≡ trial_heard dvcc fields n

@@ -2,20 +2,21 @@
 use mathlib.Core.Path.{◌≡◌, refl, sym, ◌∙◌, ap, ap₂, subst}
 use mathlib.Core.Bool.{Bool}
 use mathlib.Core.List.{List, [], ◌∷◌, ◌++◌, reverse}
-use Prim.Native.Nat.{ℕ, zero, suc, ◌+◌, ◌-◌, ◌*◌, ◌^◌, ◌<◌}
+use Prim.Native.Nat.{ℕ, zero, suc, ◌+◌, ◌*◌, ◌^◌, ◌<◌}
 use native.Mathlib.Omega.{arith}
 use lib.Dec.{eqb, eqb→eq}
 use lib.ListN.{length, take, drop, length-append, length-drop, length-reverse, take-append-drop}
 use lib.Seq.{drop-drop, length-take-le, take-append-le, take_at, drop-append-add}
+use Rattle.std.specs.Prelude.{Ok}
 use Rattle.bits.specs.Bits.{bits, bytes}
 use Rattle.bits.specs.Numbers.{packed, unpacked}
 use Rattle.bits.specs.Places.{listed}
-use Rattle.bits.specs.Refusals.{accepted}
 use Rattle.bits.proofs.Binary.{bits-bytes, bytes-append}
 use Rattle.bits.proofs.Listed.{length-listed, listed_same}
 use Rattle.bits.proofs.Packed.{unpacked-packed}
 use Rattle.bits.proofs.Tested.{below}
 use Rattle.coding.specs.Codes.{coded, dcch}
+use Rattle.coding.specs.Laws.{dcch_laws}
 use Rattle.coding.specs.Registers.{memory_high}
 use Rattle.coding.specs.Runs.{Ran}
 use Rattle.coding.proofs.Coded.{ran_none, ran_append}
@@ -78,7 +79,7 @@ rows_ran [] s h = ran_none h refl
 rows_ran (six ∷ sixes) s h =
     subst (Ran dcch memory_high s (six_bits (six ∷ sixes)) (memory_from (memory_after s six) sixes))
     (sym (bytes-append (unpacked 12 (coded_row s six)) (row_bits (rows_from (memory_after s six) sixes))))
-    (ran_append tt (row_ran s six) (rows_ran sixes (memory_after s six) (memory_below s six)))
+    (ran_append dcch_laws.six (row_ran s six) (rows_ran sixes (memory_after s six) (memory_below s six)))
 
 pub memory_from_below : (sixes : List ℕ) (s : ℕ) → s < 32 → memory_from s sixes < 32
 memory_from_below sixes s h = (rows_ran sixes s h).below
@@ -109,11 +110,11 @@ module _ (s dvcc : ℕ) (g : Given) (h : s < 32) where
 
   pub window_decodes : g.message < 2 ^ 48
       → decode_rows (rows_from s (sixes_for dvcc g)) dvcc
-      ≡ accepted (record { continuation = g.continuation; message = g.message; corrected = 0; ending = memory_from s (sixes_for dvcc g) })
+      ≡ Ok (record { continuation = g.continuation; message = g.message; corrected = 0; ending = memory_from s (sixes_for dvcc g) })
   unfolding decode_rows
   window_decodes m =
       ap (λ (b : List Bool). decode_of b dvcc) window_bits ∙ sacch_round_trip g.continuation g.message dvcc s h m
-      ∙ ap (λ (n : ℕ). accepted (record { continuation = g.continuation; message = g.message; corrected = 0; ending = n })) window_ending
+      ∙ ap (λ (n : ℕ). Ok (record { continuation = g.continuation; message = g.message; corrected = 0; ending = n })) window_ending
 
 -- ---- words one after the other
 rows_append : (sixes others : List ℕ) (s : ℕ) → rows_from s (sixes ++ others) ≡ rows_from s sixes ++ rows_from (memory_from s sixes) others
@@ -159,13 +160,13 @@ module _ (dvcc s : ℕ) (g : Given) (given : List Given) where
 
 -- the k-th eleven rows decode to the k-th word
 pub word_rows : (dvcc : ℕ) {e : SacchEncoder} {calls : List EncoderCall} {given : List Given} → Words dvcc e calls given → FittingEncoder e → (k : ℕ) → k < length given
-    → decode_rows (take 11 (drop (11 * k) (rows_from e.memory (sixes_for_all dvcc given)))) dvcc ≡ accepted (word_sent dvcc e given k)
+    → decode_rows (take 11 (drop (11 * k) (rows_from e.memory (sixes_for_all dvcc given)))) dvcc ≡ Ok (word_sent dvcc e given k)
 unfolding word_sent
 word_rows dvcc no_words f k hk = absurd (omega arith)
 word_rows dvcc (sent {e} {given = given} g n words) f zero hk =
     let h : g.message < 2 ^ 48 = word-taken dvcc g f n in
     ap (λ (l : List ℕ). decode_rows l dvcc) (first_rows dvcc e.memory g given) ∙ window_decodes e.memory dvcc g f.fit.memory h
-    ∙ ap (λ (s : ℕ). accepted (record { continuation = g.continuation; message = g.message; corrected = 0; ending = s })) (sym (memory_after-word dvcc g f h))
+    ∙ ap (λ (s : ℕ). Ok (record { continuation = g.continuation; message = g.message; corrected = 0; ending = s })) (sym (memory_after-word dvcc g f h))
 word_rows dvcc (sent {e} {given = given} g n words) f (suc k) hk =
     let h : g.message < 2 ^ 48 = word-taken dvcc g f n in
     ap (λ (l : List ℕ). decode_rows l dvcc) (later_rows dvcc e.memory g given k)
@@ -174,4 +175,4 @@ word_rows dvcc (sent {e} {given = given} g n words) f (suc k) hk =
 word_rows dvcc (refused_call {e} {given = given} call r words) f k hk =
     let left : (called e call).encoder ≡ e = refused_leaves e call r in
     ap (λ (d : SacchEncoder). decode_rows (take 11 (drop (11 * k) (rows_from d.memory (sixes_for_all dvcc given)))) dvcc) (sym left)
-    ∙ word_rows dvcc words (subst FittingEncoder (sym left) f) k hk ∙ ap (λ (d : SacchEncoder). accepted (word_sent dvcc d given k)) left
+    ∙ word_rows dvcc words (subst FittingEncoder (sym left) f) k hk ∙ ap (λ (d : SacchEncoder). Ok (word_sent dvcc d given k)) left

@@ -1,14 +1,14 @@
 -- The listening rule (document 01, demand 3): one claim over all lists of calls of an encoder and a receiver.
-use Rattle.std.specs.Prelude.{◌≡◌, ◌≢◌, true, false, List, [], ◌∷◌, ◌++◌, ℕ, zero, suc, ◌+◌, ◌-◌, ◌/◌, ◌%◌, ◌≤◌, ◌<◌, get_or, length, take, drop}
-use Rattle.bits.specs.Refusals.{accepted}
-use Rattle.bits.specs.Pushes.{PushAnswer}
-use Rattle.bits.specs.Pushes as push
+use Rattle.std.specs.Prelude.{◌≡◌, ◌≢◌, true, false, List, [], ◌∷◌, ◌++◌, ℕ, zero, suc, ◌+◌, ◌-◌, ◌/◌, ◌%◌, ◌≤◌, ◌<◌, get_or, length, take, drop, Result, Ok}
+use Rattle.bits.specs.declared.Refusal.{Refusal}
 use Rattle.sacch_encoder.specs.Words.{coded_row, memory_after, sixes_of, word_of}
 use Rattle.sacch_encoder.specs.Encoder.{encoder_fits}
 use Rattle.sacch_encoder.specs.declared.SacchEncoder.{SacchEncoder}
 use Rattle.sacch_decoder.specs.declared.SacchWord.{SacchWord}
 use Rattle.sacch_receiver.specs.Receiver.{receiver_fits}
 use Rattle.sacch_receiver.specs.Stored.{decode_rows}
+use Rattle.sacch_receiver.specs.declared.ReceiveOutcome.{ReceiveOutcome}
+use Rattle.sacch_receiver.specs.declared.ReceiveOutcome.TheVariants as outcome
 use Rattle.sacch_receiver.specs.declared.SacchReceiver.{SacchReceiver}
 use Rattle.sacch.specs.Calls.{EncoderCall, word, Given, Words, called, fields_sent, Push, Fields, answers}
 
@@ -47,7 +47,7 @@ pub record Listened (dvcc a : ℕ) (e : SacchEncoder) (calls : List EncoderCall)
   pub encoder_fit : encoder_fits e ≡ true
   pub encoder_rows : length e.rows ≡ 12
   pub receiver_fit : receiver_fits r ≡ true
-  pub receiver_fields : length r.fields ≡ 12
+  pub receiver_fields : length r.deinterleaver.fields ≡ 12
   pub receiver_rows : length r.rows ≡ 11
   pub pushed : Fields dvcc r pushes fields
   pub in_order : take (length fields) (drop (a - 1) (fields_sent e calls)) ≡ fields
@@ -63,25 +63,25 @@ Begins m = m % 11 ≡ 1
 -- With each field n from 22, rows a + n - 22 to a + n - 12 are heard. Off a boundary they decode to no word.
 abbrev pub NoFalseWord : ℕ → ℕ → SacchEncoder → List Given → ℕ → Type 0
 NoFalseWord dvcc a e given N =
-    (n : ℕ) → 22 ≤ n → n ≤ N → (Begins (a + n - 22) → ⊥) → (w : SacchWord) → decode_rows (heard_rows dvcc e given (a + n - 22)) dvcc ≢ accepted w
+    (n : ℕ) → 22 ≤ n → n ≤ N → (Begins (a + n - 22) → ⊥) → (w : SacchWord) → decode_rows (heard_rows dvcc e given (a + n - 22)) dvcc ≢ Ok w
 
 -- ---- the promise
 -- the answer to the n-th field, counted from 1
-abbrev pub answer : SacchReceiver → List Push → ℕ → PushAnswer SacchWord
-answer r pushes n = get_or (answers r pushes) (n - 1) push.pending
+abbrev pub answer : SacchReceiver → List Push → ℕ → Result ReceiveOutcome Refusal
+answer r pushes n = get_or (answers r pushes) (n - 1) (Ok outcome.Pending)
 
 -- of N fields
 pub record Promised (dvcc a : ℕ) (e : SacchEncoder) (given : List Given) (r : SacchReceiver) (pushes : List Push) (N : ℕ) : Type 0 where
   pub counts : length (answers r pushes) ≡ N
   -- a word comes only where row a + n - 22 begins one, and it is that word
-  pub only_sent : (n : ℕ) → 22 ≤ n → n ≤ N → (w : SacchWord) → answer r pushes n ≡ push.accepted w
+  pub only_sent : (n : ℕ) → 22 ≤ n → n ≤ N → (w : SacchWord) → answer r pushes n ≡ Ok (outcome.Word w)
       → Begins (a + n - 22) × ((a + n - 22) / 11 < length given) × (w ≡ word_sent dvcc e given ((a + n - 22) / 11))
   -- one of the fields 22 to 42 gives one
-  pub by_42 : 42 ≤ N → (n : ℕ) × (22 ≤ n) × (n ≤ 42) × ((w : SacchWord) × (answer r pushes n ≡ push.accepted w))
+  pub by_42 : 42 ≤ N → (n : ℕ) × (22 ≤ n) × (n ≤ 42) × ((w : SacchWord) × (answer r pushes n ≡ Ok (outcome.Word w)))
   -- after a field f that gives one, f + 11, f + 22 and so on give the next words, and every other one Pending
-  pub follows : (f : ℕ) → 22 ≤ f → f ≤ N → (w : SacchWord) → answer r pushes f ≡ push.accepted w → (k : ℕ) → 0 < k → f + k ≤ N
-      → (k % 11 ≡ 0 → ((a + (f + k) - 22) / 11 < length given) × (answer r pushes (f + k) ≡ push.accepted (word_sent dvcc e given ((a + (f + k) - 22) / 11))))
-      × (k % 11 ≢ 0 → answer r pushes (f + k) ≡ push.pending)
+  pub follows : (f : ℕ) → 22 ≤ f → f ≤ N → (w : SacchWord) → answer r pushes f ≡ Ok (outcome.Word w) → (k : ℕ) → 0 < k → f + k ≤ N
+      → (k % 11 ≡ 0 → ((a + (f + k) - 22) / 11 < length given) × (answer r pushes (f + k) ≡ Ok (outcome.Word (word_sent dvcc e given ((a + (f + k) - 22) / 11)))))
+      × (k % 11 ≢ 0 → answer r pushes (f + k) ≡ Ok outcome.Pending)
 
 abbrev pub ListeningRule : Type 0
 ListeningRule =

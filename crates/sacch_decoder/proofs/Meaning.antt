@@ -6,7 +6,7 @@ use mathlib.Core.List.{List, reverse}
 use Prim.Native.Nat.{ℕ, ◌≤◌}
 use native.Mathlib.Omega.{arith}
 use lib.ListN.{get_or}
-use Rattle.bits.specs.Refusals.{Answer, accepted, refused}
+use Rattle.std.specs.Prelude.{Result, Ok, Err}
 use Rattle.bits.specs.declared.Refusal.{Refusal}
 use Rattle.bits.specs.declared.Refusal.TheVariants as refusal
 use Rattle.trellis.specs.Search.{Nearest, Ambiguous}
@@ -22,16 +22,16 @@ use Rattle.sacch_decoder.specs.declared.SacchWord.{SacchWord}
 
 -- ---- one word
 -- two answers that are told apart
-clash : {A : Type 0} {x : SacchWord} {why : Refusal} {a : Answer SacchWord} → a ≡ accepted x → a ≡ refused why → A
+clash : {A : Type 0} {x : SacchWord} {why : Refusal} {a : Result SacchWord Refusal} → a ≡ Ok x → a ≡ Err why → A
 clash e f = let z : ◌≡◌ {A = ℕ} 0 1 = cc in absurd (omega arith)
 
 module _ (w : List Bool) (corrected dvcc : ℕ) where
   -- no end of it is Ambiguous
-  finished_clear : finished w corrected dvcc ≡ refused refusal.Ambiguous → ⊥
+  finished_clear : finished w corrected dvcc ≡ Err refusal.Ambiguous → ⊥
   unfolding finished
   finished_clear = by (get_or w 1 false) (word_valid 2 w dvcc)
     where
-      by : (reserved right : Bool) → cond reserved (refused refusal.Reserved) (cond right (accepted (content_of w corrected)) (refused refusal.Crc)) ≡ refused refusal.Ambiguous → ⊥
+      by : (reserved right : Bool) → cond reserved (Err refusal.Reserved) (cond right (Ok (content_of w corrected)) (Err refusal.Crc)) ≡ Err refusal.Ambiguous → ⊥
       by true right e = let z : ◌≡◌ {A = ℕ} 0 1 = cc in omega arith
       by false true e = let z : ◌≡◌ {A = ℕ} 0 1 = cc in omega arith
       by false false e = let z : ◌≡◌ {A = ℕ} 0 1 = cc in omega arith
@@ -42,34 +42,34 @@ module _ (w : List Bool) (corrected dvcc : ℕ) where
     pub content : x ≡ content_of w corrected
 
   -- where it is accepted
-  pub finished-taken : {x : SacchWord} → finished w corrected dvcc ≡ accepted x → Taken x
+  pub finished-taken : {x : SacchWord} → finished w corrected dvcc ≡ Ok x → Taken x
   unfolding finished
   finished-taken {x} = by (get_or w 1 false) refl (word_valid 2 w dvcc) refl
     where
       by : (reserved : Bool) → get_or w 1 false ≡ reserved → (right : Bool) → word_valid 2 w dvcc ≡ right
-          → cond reserved (refused refusal.Reserved) (cond right (accepted (content_of w corrected)) (refused refusal.Crc)) ≡ accepted x → Taken x
+          → cond reserved (Err refusal.Reserved) (cond right (Ok (content_of w corrected)) (Err refusal.Crc)) ≡ Ok x → Taken x
       by true a right b e = clash e refl
       by false a true b e = record { reserved = a; right = b; content = cc }
       by false a false b e = clash e refl
 
-  pub taken-finished : get_or w 1 false ≡ false → word_valid 2 w dvcc ≡ true → finished w corrected dvcc ≡ accepted (content_of w corrected)
+  pub taken-finished : get_or w 1 false ≡ false → word_valid 2 w dvcc ≡ true → finished w corrected dvcc ≡ Ok (content_of w corrected)
   unfolding finished
   taken-finished a b = rw (a, b)
 
 -- ---- the received bits
 module _ (received : List Bool) (dvcc : ℕ) where
   -- what a word alone decides, with its disagreements
-  abbrev by_word : List Bool → ℕ → Answer SacchWord
+  abbrev by_word : List Bool → ℕ → Result SacchWord Refusal
   by_word w corrected = finished (reverse w) corrected dvcc
 
-  pub sacch_decided : Decided (OfLength 66) (free_weight received) by_word (refused refusal.Ambiguous) (decode_of received dvcc)
+  pub sacch_decided : Decided (OfLength 66) (free_weight received) by_word (Err refusal.Ambiguous) (decode_of received dvcc)
   unfolding decode_of
-  sacch_decided = nearest_decide (all_lists 66) (free_weight received) by_word (refused refusal.Ambiguous)
+  sacch_decided = nearest_decide (all_lists 66) (free_weight received) by_word (Err refusal.Ambiguous)
 
-  pub ambiguous : Ambiguous (OfLength 66) (free_weight received) → decode_of received dvcc ≡ refused refusal.Ambiguous
+  pub ambiguous : Ambiguous (OfLength 66) (free_weight received) → decode_of received dvcc ≡ Err refusal.Ambiguous
   ambiguous = decided_shared sacch_decided
 
-  pub only_ambiguous : decode_of received dvcc ≡ refused refusal.Ambiguous → Ambiguous (OfLength 66) (free_weight received)
+  pub only_ambiguous : decode_of received dvcc ≡ Err refusal.Ambiguous → Ambiguous (OfLength 66) (free_weight received)
   only_ambiguous = only_shared sacch_decided (λ x. x) (λ w n. finished_clear (reverse w) n dvcc)
 
   -- the nearest word, where it is alone, decides
@@ -89,14 +89,14 @@ module _ (received : List Bool) (dvcc : ℕ) where
     pub single : Ambiguous (OfLength 66) (free_weight received) → ⊥
     pub taken : Taken (reverse word) (free_weight received word) dvcc x
 
-  pub accepted_word : {x : SacchWord} → decode_of received dvcc ≡ accepted x → Accepted x
+  pub accepted_word : {x : SacchWord} → decode_of received dvcc ≡ Ok x → Accepted x
   accepted_word {x} e =
       let none : Ambiguous (OfLength 66) (free_weight received) → ⊥ = λ a. clash e (ambiguous a) in
       let r = one_settled none in
       record { word = r.0; nearest = r.1; single = none; taken = finished-taken (reverse r.0) (free_weight received r.0) dvcc (sym r.2 ∙ e) }
 
   -- it has no more corrected bits than coded ones
-  pub corrected_le : {x : SacchWord} → decode_of received dvcc ≡ accepted x → x.corrected ≤ 132
+  pub corrected_le : {x : SacchWord} → decode_of received dvcc ≡ Ok x → x.corrected ≤ 132
   unfolding content_of
   corrected_le {x} e =
       let a = accepted_word e in

@@ -2,19 +2,18 @@
 // Ported from 136-bts, sacch.rs, and changed (see NOTICE).
 #![tactic(auto)]
 
-ghost use Rattle.std.specs.Prelude.{cond, true, reverse, ◌≡◌, length, take};
+ghost use Rattle.std.specs.Prelude.{Err, cond, true, reverse, ◌≡◌, take};
 ghost use Rattle.bits.specs.Bits.{all_binary, bits};
 ghost use Rattle.bits.specs.Numbers.{packed};
-ghost use Rattle.bits.specs.Refusals.{accepted, refused};
-ghost use Rattle.bits.specs.declared.Refusal.TheVariants.{Ambiguous, Crc, Reserved};
-ghost use Rattle.sacch_decoder.specs.Decoding.{content_of, decode_answer, decode_of, decoding, finished, decode_arguments};
+ghost use Rattle.bits.specs.declared.Refusal.TheVariants.{Ambiguous};
+ghost use Rattle.sacch_decoder.specs.Decoding.{content_of, decode_arguments, decoding, finished};
 
-use bits::arguments::{Arguments, exact_bits};
+use bits::arguments::exact_bits;
 use bits::{Refusal, pack};
 use trellis::Outcome;
 
 // A decoded word.
-#[derive(Clone, Copy)]
+#[derive(Clone, Copy, Debug, PartialEq, Eq)]
 pub struct SacchWord {
     pub continuation: bool,
     // 48 bits, the first highest.
@@ -25,16 +24,9 @@ pub struct SacchWord {
     pub ending: u8,
 }
 
-// What decoding answers.
-#[derive(Clone, Copy)]
-pub enum Decoded {
-    Accepted(SacchWord),
-    Refused(Refusal),
-}
-
 // The memory that a word leaves: its last five bits, the newest highest.
-fn ending(word: &[u8]) -> u8
-    requires { (length word.now ≡ 66) × (all_binary word.now ≡ true) }
+fn ending(word: &[u8; 66]) -> u8
+    requires { all_binary word.now ≡ true }
     ensures { result ≡ packed (take 5 (reverse (bits word.now))) }
 {
     let newest = [word[65], word[64], word[63], word[62], word[61]];
@@ -42,63 +34,44 @@ fn ending(word: &[u8]) -> u8
 }
 
 // The content of a word that has so many disagreements.
-fn content(word: &[u8], corrected: u16) -> SacchWord
-    requires { (length word.now ≡ 66) × (all_binary word.now ≡ true) }
+#[tactic(auto, using(words::proofs::Parts::flag), unfolding(crate::specs::Decoding::content_of))]
+fn content(word: &[u8; 66], corrected: u16) -> SacchWord
+    requires { all_binary word.now ≡ true }
     ensures { result ≡ content_of (bits word.now) corrected }
 {
-    let message = words::message(2, word);
-    let ending = ending(word);
     SacchWord {
         continuation: word[0] == 1,
-        message,
+        message: words::message(2, word),
         corrected,
-        ending,
+        ending: ending(word),
     }
 }
 
-// Ambiguous before Reserved before Crc.
-fn verdict(tie: bool, reserved: bool, right: bool, word: SacchWord) -> Decoded
-    ensures { decode_answer result ≡ cond tie (refused Ambiguous) (cond reserved (refused Reserved) (cond right (accepted word) (refused Crc))) }
+// What the word that a search found gives: Ambiguous before Reserved before Crc.
+#[tactic(auto, using(crate::proofs::Settling::one_bit, crate::proofs::Settling::zero_bit), unfolding(crate::specs::Decoding::finished))]
+fn finish(word: &[u8; 66], found: Outcome, dvcc: u8) -> Result<SacchWord, Refusal>
+    requires { all_binary word.now ≡ true }
+    ensures { result ≡ cond found.tie (Err Ambiguous) (finished (bits word.now) found.metric dvcc) }
 {
-    if tie {
-        return Decoded::Refused(Refusal::Ambiguous);
+    if found.tie {
+        return Err(Refusal::Ambiguous);
     }
-    if reserved {
-        return Decoded::Refused(Refusal::Reserved);
+    if word[1] == 1 {
+        return Err(Refusal::Reserved);
     }
-    if right {
-        return Decoded::Accepted(word);
+    if !words::valid(2, word, dvcc) {
+        return Err(Refusal::Crc);
     }
-    Decoded::Refused(Refusal::Crc)
+    Ok(content(word, found.metric))
 }
 
-// What the word that a search found gives.
-fn finish(word: &[u8], found: Outcome, dvcc: u8) -> Decoded
-    requires { (length word.now ≡ 66) × (all_binary word.now ≡ true) }
-    ensures { decode_answer result ≡ cond found.tie (refused Ambiguous) (finished (bits word.now) found.metric dvcc) }
+// The content of the word nearest to the coded bits, where one alone is. All words of 66 inputs are searched, from whatever memory.
+#[tactic(auto, using(crate::proofs::Settling::word_decides))]
+pub fn decode(coded: &[u8], dvcc: u8) -> Result<SacchWord, Refusal>
+    ensures { result ≡ decoding (decode_arguments coded.now) coded.now dvcc }
 {
-    let right = words::valid(2, word, dvcc);
-    let content = content(word, found.metric);
-    verdict(found.tie, word[1] == 1, right, content)
-}
-
-// Searches the words of 66 inputs, from whatever memory.
-fn answer(coded: &[u8], dvcc: u8) -> Decoded
-    requires { (length coded.now ≡ 132) × (all_binary coded.now ≡ true) }
-    ensures { decode_answer result ≡ decode_of (bits coded.now) dvcc }
-{
+    exact_bits(132, coded)?;
     let mut word = [0u8; 66];
     let found = viterbi::free(coded, &mut word);
     finish(&word, found, dvcc)
-}
-
-// The content of the word nearest to the coded bits, where one alone is.
-pub fn decode(coded: &[u8], dvcc: u8) -> Decoded
-    ensures { decode_answer result ≡ decoding (decode_arguments coded.now) coded.now dvcc }
-{
-    let ready = exact_bits(132, coded);
-    if let Arguments::Refused(why) = ready {
-        return Decoded::Refused(why);
-    }
-    answer(coded, dvcc)
 }

@@ -1,5 +1,5 @@
 -- The loop over six inputs: after k of them the row is the number of the coded bits of a run of k inputs. Assumes nothing.
-use mathlib.Core.Path.{◌≡◌, refl, sym, ap, subst, ◌∙◌}
+use mathlib.Core.Path.{◌≡◌, refl, sym, ap, ap₂, subst, ◌∙◌}
 use mathlib.Core.Bool.{Bool}
 use mathlib.Core.List.{List, [], ◌∷◌, ◌++◌, append_assoc}
 use Prim.Native.Nat.{ℕ, zero, suc, ◌+◌, ◌*◌, ◌^◌, ◌<◌, ◌≤◌}
@@ -13,6 +13,7 @@ use Rattle.bits.specs.Numbers.{packed}
 use Rattle.bits.proofs.Binary.{bits-append, byte-bit, byte_below}
 use Rattle.bits.proofs.Packed.{packed_below, packed_snoc}
 use Rattle.coding.specs.Codes.{coded, dcch, outputs}
+use Rattle.coding.specs.Laws.{dcch_laws}
 use Rattle.coding.specs.Registers.{memory_high, Stepped}
 use Rattle.coding.specs.Runs.{Encoded, Ran}
 use Rattle.coding.proofs.Coded.{coded-length, ran_none, ran_more}
@@ -61,17 +62,17 @@ module _ {memory : ℕ} {six : List ℕ} {row at k : ℕ} (c : Coding memory six
       let p : 2 ^ (k * 2) ≤ 2 ^ 10 = pow.pow_mono {i = k * 2} {j = 10} (omega arith) in
       omega (arith, c.so_far)
 
-  pub coding_more : {next : ℕ} {o : List ℕ} → k < 6 → Stepped dcch memory_high at (bit (get_or six k 0)) next o
-      → Coding memory six (row * 4 + (get_or o 0 0 * 2 + get_or o 1 0)) next (k + 1)
-  coding_more {next} {o} h step =
+  pub coding_more : {next pair : ℕ} {o : List ℕ} → k < 6 → Stepped dcch memory_high at (bit (get_or six k 0)) next o → pair ≡ get_or o 0 0 * 2 + get_or o 1 0
+      → Coding memory six (row * 4 + pair) next (k + 1)
+  coding_more {next} {pair} {o} h step told =
       let inputs : bits (take (k + 1) six) ≡ bits (take k six) ++ (bit (get_or six k 0) ∷ []) =
       ap bits (ap (λ (n : ℕ). take n six) (add-one k) ∙ take-suc six k 0 (omega arith)) ∙ bits-append (take k six) (get_or six k 0 ∷ []) in
       record {
         low = omega arith;
         out = c.out ++ o;
-        run = subst (λ (u : List Bool). Ran dcch memory_high memory u next (c.out ++ o)) (sym inputs) (ran_more tt c.run step);
+        run = subst (λ (u : List Bool). Ran dcch memory_high memory u next (c.out ++ o)) (sym inputs) (ran_more dcch_laws.six c.run step);
         so_far =
-            ap (λ (n : ℕ). n * 4 + (get_or o 0 0 * 2 + get_or o 1 0)) c.so_far
+            ap₂ (λ (n p : ℕ). n * 4 + p) c.so_far told
             ∙ sym (two_more c.out (get_or o 0 0) (get_or o 1 0) (output_below step 0) (output_below step 1))
             ∙ ap (λ (l : List ℕ). packed (bits (c.out ++ l))) (sym (both step));
       }

@@ -1,16 +1,15 @@
 -- What an accepted state says, and that it is kept. Assumes nothing.
-use mathlib.Core.Path.{◌≡◌, refl, sym, subst, ◌∙◌}
+use mathlib.Core.Path.{◌≡◌, refl, sym, subst}
 use mathlib.Core.Bool.{true, ◌&&◌}
 use Prim.Native.Nat.{ℕ, ◌+◌, ◌<◌}
 use native.Mathlib.Nat.{mod-lt}
 use native.Mathlib.Omega.{arith}
 use borrow.Author.Tests.{lt-ltb, ltb-true}
 use lib.Dec.{ltb}
-use Rattle.bits.specs.Arguments.{first_refusal}
-use Rattle.bits.specs.declared.arguments.Arguments.{Arguments}
-use Rattle.bits.specs.declared.arguments.Arguments.TheVariants.{Passed}
+use Rattle.bits.specs.Arguments.{Arguments, below_of, first_refusal}
 use Rattle.bits.specs.declared.Refusal.TheVariants.{State}
-use Rattle.bits.proofs.Refusing.{test_passed, passed_first}
+use Rattle.bits.proofs.Refusing.{test_passed, passed_below, passed_first}
+use Rattle.std.specs.Prelude.{Ok}
 use Rattle.sacch_interleaver.specs.Diagonal.{all_twelve}
 use Rattle.sacch_interleaver.proofs.Deinterleaving.{and_parts}
 use Rattle.bits.proofs.Below.{below_set}
@@ -55,5 +54,8 @@ fit_encoded e six f =
     }
 
 -- the tests of a call passed
-pub fit_ready : (e : SacchEncoder) (later : Arguments) {l : Arguments} → l ≡ first_refusal (encoder_state e) later → l ≡ Passed → Fit e
-fit_ready e later told passed = fit_of e (test_passed (encoder_fits e) State Passed (passed_first (encoder_state e) later (sym told ∙ passed)).0).0
+pub fit_ready : (e : SacchEncoder) (later : Arguments) → Ok tt ≡ first_refusal (encoder_state e) later → Fit e
+fit_ready e later told = fit_of e (test_passed (encoder_fits e) State (Ok tt) (passed_first (encoder_state e) later (sym told)).0).0
+
+pub given_below : (e : SacchEncoder) (limit given : ℕ) → first_refusal (encoder_state e) (below_of limit given) ≡ Ok tt → given < limit
+given_below e limit given ready = passed_below limit given (passed_first (encoder_state e) (below_of limit given) ready).1

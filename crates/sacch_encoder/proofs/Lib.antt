@@ -2,6 +2,6 @@
 pub mod Rows
 pub mod Coding
 pub mod Fits
-pub mod Sending
 pub mod Slots
+pub mod Sending
 pub mod WordBits

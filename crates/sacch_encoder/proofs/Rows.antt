@@ -5,7 +5,7 @@ use mathlib.Core.List.{List, ◌∷◌, [], ◌++◌, reverse}
 use Prim.Native.Nat.{ℕ, ◌*◌, ◌/◌, ◌^◌, ◌<◌}
 use native.Mathlib.Nat.{div-one}
 use lib.ListN.{length, take, length-map}
-use Rattle.bits.specs.Bits.{bit, bits, byte, bytes, all_binary}
+use Rattle.bits.specs.Bits.{bit, bits, bytes, all_binary}
 use Rattle.bits.specs.Numbers.{packed, unpacked}
 use Rattle.bits.proofs.Binary.{bits-bytes, binary_bytes}
 use Rattle.bits.proofs.Packed.{packed_below, packed-unpacked_below, unpacked-packed, unpacked-length}
@@ -68,9 +68,6 @@ module _ {memory next : ℕ} (six : List ℕ) {out : List ℕ} (size : length si
 
 -- ---- six bits of a number as bytes
 module _ (six : ℕ) {inputs : List ℕ} (written : inputs ≡ bytes (unpacked 6 six)) where
-  pub inputs_length : length inputs ≡ 6
-  inputs_length = ap length written ∙ length-map (unpacked 6 six) byte ∙ unpacked-length 6 six
-
   pub inputs_binary : all_binary inputs ≡ true
   inputs_binary = ap all_binary written ∙ binary_bytes (unpacked 6 six)
 

@@ -1,17 +1,20 @@
--- The ways out of a call: refused with the encoder as it was, or done. Assumes nothing.
-use mathlib.Core.Path.{◌≡◌, sym, ap, ◌∙◌}
-use Rattle.bits.specs.Refusals.{Answer, accepted, refused}
-use Rattle.bits.specs.declared.arguments.Arguments.{Arguments}
-use Rattle.bits.specs.declared.arguments.Arguments.TheVariants.{Passed, Refused}
-use Rattle.bits.specs.declared.Refusal.{Refusal}
-use Rattle.sacch_encoder.specs.Encoder.{Sent, sending}
+-- What a call gives whose tests passed. Assumes nothing.
+use mathlib.Core.Path.{◌≡◌}
+use mathlib.Core.Bool.{Bool}
+use Prim.Native.Nat.{ℕ, ◌^◌}
+use Rattle.std.specs.Prelude.{Ok}
+use Rattle.bits.specs.Arguments.{below_of, first_refusal}
+use Rattle.sacch_encoder.specs.Encoder.{encode_bits_of, encode_word_of, encoder_state, encoded, encoded_all, field_now, fields_from}
+use Rattle.sacch_encoder.specs.Words.{sixes_of, word_of}
 use Rattle.sacch_encoder.specs.declared.SacchEncoder.{SacchEncoder}
 
-module _ {A : Type 0} {l arguments : Arguments} (told : l ≡ arguments) (e : SacchEncoder) (nothing : A) (e' : SacchEncoder) (made : A) where
-  pub declined_end : (why : Refusal) → l ≡ Refused why
-      → ◌≡◌ {A = Sent A} (record { answer = refused why; encoder = e; made = nothing }) (sending arguments e nothing e' made)
-  declined_end why r = ap (λ (x : Arguments). sending x e nothing e' made) (sym r ∙ told)
+pub bits_sent : (e : SacchEncoder) (six : ℕ) → first_refusal (encoder_state e) (below_of 64 six) ≡ Ok tt
+    → encode_bits_of e six ≡ record { answer = Ok (field_now (encoded e six)); encoder = encoded e six }
+unfolding encode_bits_of
+bits_sent e six ready = rw ready
 
-  pub done_end : l ≡ Passed → {a : Answer Unit} {e'' : SacchEncoder} {x : A} → a ≡ accepted tt → e'' ≡ e' → x ≡ made
-      → ◌≡◌ {A = Sent A} (record { answer = a; encoder = e''; made = x }) (sending arguments e nothing e' made)
-  done_end passed p q r = cc
+pub word_sent : (e : SacchEncoder) (continuation : Bool) (message dvcc : ℕ) → first_refusal (encoder_state e) (below_of (2 ^ 48) message) ≡ Ok tt
+    → encode_word_of e continuation message dvcc
+    ≡ record { answer = Ok (fields_from e (sixes_of (word_of continuation message dvcc))); encoder = encoded_all e (sixes_of (word_of continuation message dvcc)) }
+unfolding encode_word_of
+word_sent e continuation message dvcc ready = rw ready

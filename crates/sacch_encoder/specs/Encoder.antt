@@ -1,16 +1,11 @@
 -- The encoder's calls on values.
-use Rattle.std.specs.Prelude.{Bool, cond, ◌&&◌, List, [], ◌∷◌, ℕ, ◌+◌, ◌%◌, ◌^◌, ltb, set, replicate}
-use Rattle.bits.specs.Refusals.{Answer, accepted, refused}
-use Rattle.bits.specs.Arguments.{first_refusal, below_of}
-use Rattle.bits.specs.Calls.{wrote_answer}
-use Rattle.bits.specs.declared.arguments.Arguments.{Arguments}
-use Rattle.bits.specs.declared.arguments.Arguments.TheVariants.{Passed, Refused}
-use Rattle.bits.specs.declared.Refusal.TheVariants.{State}
+use Rattle.std.specs.Prelude.{Bool, ◌&&◌, List, [], ◌∷◌, ℕ, ◌+◌, ◌%◌, ◌^◌, ltb, set, replicate, Result, Ok, Err}
+use Rattle.bits.specs.Arguments.{Arguments, first_refusal, below_of}
+use Rattle.bits.specs.declared.Refusal.{Refusal}
+use Rattle.sacch_interleaver.specs.Deinterleaver.{state_unless}
 use Rattle.sacch_interleaver.specs.Diagonal.{all_twelve, field_of}
 use Rattle.sacch_encoder.specs.Words.{coded_row, memory_after, sixes_of, word_of}
 use Rattle.sacch_encoder.specs.declared.SacchEncoder.{SacchEncoder}
-use Rattle.sacch_encoder.specs.declared.EncodedField.{EncodedField}
-use Rattle.sacch_encoder.specs.declared.EncodedWord.{EncodedWord}
 
 -- ---- the state
 -- memory 0, no row to send
@@ -22,7 +17,7 @@ unfoldable pub encoder_fits : SacchEncoder → Bool
 encoder_fits e = ltb e.memory 32 && ltb e.cursor 12 && all_twelve e.rows
 
 abbrev pub encoder_state : SacchEncoder → Arguments
-encoder_state e = cond (encoder_fits e) Passed (Refused State)
+encoder_state e = state_unless (encoder_fits e)
 
 -- ---- six bits
 -- their row takes the place of the oldest
@@ -46,29 +41,22 @@ unfoldable pub fields_from : SacchEncoder → List ℕ → List ℕ
 fields_from e [] = []
 fields_from e (six ∷ sixes) = field_now (encoded e six) ∷ fields_from (encoded e six) sixes
 
--- ---- the calls: what they answer to document 01, the encoder after them, and what they made
+-- ---- the calls: what they answer, and the encoder after them
 pub record Sent (A : Type 0) : Type 0 where
-  pub answer : Answer Unit
+  pub answer : Result A Refusal
   pub encoder : SacchEncoder
-  pub made : A
-
-abbrev pub sent_field : EncodedField → Sent ℕ
-sent_field r = record { answer = wrote_answer r.outcome; encoder = r.encoder; made = r.field }
-
-abbrev pub sent_word : EncodedWord → Sent (List ℕ)
-sent_word r = record { answer = wrote_answer r.outcome; encoder = r.encoder; made = r.fields }
 
 -- a refused call leaves the encoder
-abbrev pub sending : {A : Type 0} → Arguments → SacchEncoder → A → SacchEncoder → A → Sent A
-sending (Refused why) e nothing e' made = record { answer = refused why; encoder = e; made = nothing }
-sending Passed e nothing e' made = record { answer = accepted tt; encoder = e'; made = made }
+abbrev pub sending : {A : Type 0} → Arguments → SacchEncoder → SacchEncoder → A → Sent A
+sending (Err why) e e' made = record { answer = Err why; encoder = e }
+sending (Ok passed) e e' made = record { answer = Ok made; encoder = e' }
 
 -- State, then Symbol where the six bits are above 63
 unfoldable pub encode_bits_of : SacchEncoder → ℕ → Sent ℕ
-encode_bits_of e six = sending (first_refusal (encoder_state e) (below_of 64 six)) e 0 (encoded e six) (field_now (encoded e six))
+encode_bits_of e six = sending (first_refusal (encoder_state e) (below_of 64 six)) e (encoded e six) (field_now (encoded e six))
 
 -- State, then Symbol where the message has more than 48 bits
 unfoldable pub encode_word_of : SacchEncoder → Bool → ℕ → ℕ → Sent (List ℕ)
 encode_word_of e continuation message dvcc =
-    sending (first_refusal (encoder_state e) (below_of (2 ^ 48) message)) e (replicate 11 0)
+    sending (first_refusal (encoder_state e) (below_of (2 ^ 48) message)) e
     (encoded_all e (sixes_of (word_of continuation message dvcc))) (fields_from e (sixes_of (word_of continuation message dvcc)))

@@ -6,41 +6,39 @@ ghost use Rattle.bits.specs.Numbers.{packed};
 ghost use Rattle.sacch_interleaver.specs.Diagonal.{field_of};
 ghost use Rattle.sacch_encoder.specs.Words.{coded_row, memory_after};
 
-use coding::dcch::transition;
-use sacch_interleaver::field_among;
+use coding::Code;
+use coding::codes::Dcch;
+use sacch_interleaver::field_of;
 
 // Six inputs coded: their row, and the memory after them.
-#[derive(Clone, Copy)]
+#[derive(Clone, Copy, Debug, PartialEq, Eq)]
 pub struct Coded {
     pub row: u16,
     pub memory: u8,
 }
 
 // The row of six bits from a memory.
-pub fn code_six(memory: u8, six: &[u8]) -> Coded
-    requires { (memory < 32) × (length six.now ≡ 6) × (all_binary six.now ≡ true) }
+pub fn code_six(memory: u8, six: &[u8; 6]) -> Coded
+    requires { (memory < 32) × (all_binary six.now ≡ true) }
     ensures { (result.row ≡ coded_row memory (packed (bits six.now))) × (result.memory ≡ memory_after memory (packed (bits six.now))) }
 {
     let mut row: u16 = 0;
     let mut at = memory;
-    for i in 0..6 {
-        let step = transition(at, six[i]);
-        let output = step.output;
-        row = row * 4 + (output[0] * 2 + output[1]) as u16;
+    for bit in six {
+        let step = Dcch::transition(at, *bit);
+        row = row * 4 + u16::from(step.output[0] * 2 + step.output[1]);
         at = step.next;
     }
     Coded { row, memory: at }
 }
 
 // The fields of eleven successive slots, from the twelve rows before the first and the eleven of these slots.
-pub fn fields_of(run: &[u16]) -> [u16; 11]
-    requires { length run.now ≡ 23 }
+pub fn fields_of(run: &[u16; 23]) -> [u16; 11]
     ensures { (length result ≡ 11) × ((k : ℕ) → k < 11 → get_or result k 0 ≡ field_of (take 12 (drop (k + 1) run.now)) 0) }
 {
     let mut fields = [0u16; 11];
     for i in 0..11 {
-        let from = i + 1;
-        fields[i] = field_among(&run[from..from + 12], 0);
+        fields[i] = field_of(&run[i + 1..i + 13], 0);
     }
     fields
 }

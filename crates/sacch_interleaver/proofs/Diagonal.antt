@@ -4,7 +4,7 @@ use mathlib.Core.Bool.{Bool, false}
 use mathlib.Core.List.{List}
 use Prim.Native.Nat.{ℕ, ◌+◌, ◌-◌, ◌%◌, ◌^◌, ◌<◌}
 use native.Mathlib.Omega.{arith}
-use lib.ListN.{get_or}
+use lib.ListN.{get_or, length}
 use Rattle.bits.specs.Numbers.{packed, unpacked}
 use Rattle.bits.specs.Places.{listed}
 use Rattle.bits.proofs.Listed.{length-listed, get_d_listed, is_listed}
@@ -58,6 +58,16 @@ row_of_lem l c F n h = twelve_same _ _ (λ j b. ap (λ (x : ℕ). bit_of x j) (h
 pub field_of_lem : (l : List ℕ) (c : ℕ) (E : ℕ → ℕ) (n : ℕ) → Holds 12 l c E n → field_of l c ≡ diagonal E n
 unfolding field_of
 field_of_lem l c E n h = twelve_same _ _ (λ j b. ap (λ (x : ℕ). bit_of x j) (h (11 - j) (omega arith)))
+
+-- The row of a ring is the field of the ring turned round.
+pub turned_round : (l turned : List ℕ) (next : ℕ) → length l ≡ 12 → next < 12 → ((k : ℕ) → k < 12 → get_or turned k 0 ≡ get_or l (length l - 1 - k) 0)
+    → field_of turned (12 - next) ≡ row_of l next
+unfolding field_of row_of
+turned_round l turned next size h same =
+    twelve_same _ _
+    (λ j b.
+    let place : length l - 1 - (12 - next + (11 - j)) % 12 ≡ (next + j) % 12 = omega arith in
+    ap (λ (x : ℕ). bit_of x j) (same ((12 - next + (11 - j)) % 12) (omega arith) ∙ ap (λ (k : ℕ). get_or l k 0) place))
 
 -- ---- what rings give has twelve bits
 pub field_fits : (l : List ℕ) (c : ℕ) → field_of l c < 4096

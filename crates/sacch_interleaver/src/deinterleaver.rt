@@ -1,46 +1,23 @@
-// The deinterleaver's calls: a record goes in by value and comes back.
+// The deinterleaver's calls.
 // Ported from 136-bts, sacch.rs, and changed (see NOTICE).
-ghost use Rattle.std.specs.Prelude.{◌≡◌, ◌+◌, ◌<◌, min};
-ghost use Rattle.sacch_interleaver.specs.Deinterleaver.{deinterleaved, deinterleaver_fits, field_stored, fresh_deinterleaver, push_row_of, row_answer, row_found};
+ghost use Rattle.std.specs.Prelude.{◌≡◌, ◌<◌};
+ghost use Rattle.sacch_interleaver.specs.Deinterleaver.{deinterleaver_fits, deinterleaver_state, field_stored, fresh_deinterleaver, push_row_of, row_found};
 
-use crate::{PushedRow, RowOutcome, SacchDeinterleaver, all_twelve, row_of};
-use bits::{Refusal, both};
+use crate::{SacchDeinterleaver, all_twelve, row_of, state_unless};
+use bits::Refusal;
+use bits::arguments::below;
 
-// One more, up to most.
-pub fn one_more(n: usize, most: usize) -> usize
-    ensures { result ≡ min most (n + 1) }
-{
-    if n < most { n + 1 } else { most }
-}
+impl Default for SacchDeinterleaver {
+    ghost is_default = { λ d. d ≡ fresh_deinterleaver };
 
-// The field in the place of the oldest.
-pub fn with_field(mut d: SacchDeinterleaver, field: u16) -> SacchDeinterleaver
-    requires { d.cursor < 12 }
-    ensures { result ≡ field_stored d field }
-{
-    let at = d.cursor;
-    let received = one_more(d.received, 12);
-    d.fields[at] = field;
-    d.cursor = (at + 1) % 12;
-    d.received = received;
-    d
-}
-
-// The row that the newest field completes, once there are twelve.
-pub fn row_found(d: SacchDeinterleaver) -> RowOutcome
-    requires { d.cursor < 12 }
-    ensures { row_answer result ≡ row_found d }
-{
-    if d.received < 12 {
-        return RowOutcome::Pending;
+    fn default() -> SacchDeinterleaver {
+        SacchDeinterleaver::new()
     }
-    let fields = d.fields;
-    let next = d.cursor;
-    RowOutcome::Row(row_of(fields, next))
 }
 
 impl SacchDeinterleaver {
     // A deinterleaver that has received nothing.
+    #[tactic(auto, unfolding(crate::specs::Deinterleaver::fresh_deinterleaver))]
     pub fn new() -> SacchDeinterleaver
         ensures { result ≡ fresh_deinterleaver }
     {
@@ -52,45 +29,57 @@ impl SacchDeinterleaver {
     }
 
     // Forgets all fields, whatever the record held.
-    pub fn reset(mut self) -> SacchDeinterleaver
-        ensures { result ≡ fresh_deinterleaver }
+    pub fn reset(&mut self)
+        ensures { self.new ≡ fresh_deinterleaver }
     {
-        self.fields = [0; 12];
-        self.cursor = 0;
-        self.received = 0;
-        self
+        *self = SacchDeinterleaver::new();
     }
 
     // Whether refusal 8 lets a state pass.
-    pub fn fits(self) -> bool
-        ensures { result ≡ deinterleaver_fits self }
+    #[tactic(auto, unfolding(crate::specs::Deinterleaver::deinterleaver_fits))]
+    pub fn fits(&self) -> bool
+        ensures { result ≡ deinterleaver_fits self.now }
     {
-        let fields = self.fields;
-        let fields_fit = all_twelve(&fields);
-        let counts = both(self.cursor < 12, self.received < 13);
-        both(counts, fields_fit)
+        let counts = (self.cursor < 12) & (self.received < 13);
+        counts & all_twelve(&self.fields)
     }
 
-    // One field pushed. Refused with State, then Symbol: then the deinterleaver is as it was.
-    pub fn push(self, field: u16) -> PushedRow
-        ensures { deinterleaved result ≡ push_row_of self field }
+    // Refused where a number is out of its range.
+    fn state(&self) -> Result<(), Refusal>
+        ensures { result ≡ deinterleaver_state self.now }
     {
-        if !self.fits() {
-            return PushedRow {
-                outcome: RowOutcome::Refused(Refusal::State),
-                deinterleaver: self,
-            };
-        }
-        if 4095 < field {
-            return PushedRow {
-                outcome: RowOutcome::Refused(Refusal::Symbol),
-                deinterleaver: self,
-            };
-        }
-        let deinterleaver = with_field(self, field);
-        PushedRow {
-            outcome: row_found(deinterleaver),
-            deinterleaver,
-        }
+        state_unless(self.fits())
+    }
+
+    // The field in the place of the oldest.
+    #[tactic(auto, unfolding(crate::specs::Deinterleaver::field_stored))]
+    fn store(&mut self, field: u16)
+        requires { (self.old.cursor < 12) × (self.old.received < 13) }
+        ensures { self.new ≡ field_stored self.old field }
+    {
+        self.fields[self.cursor] = field;
+        self.cursor = (self.cursor + 1) % 12;
+        self.received = (self.received + 1).min(12);
+    }
+
+    // The row that the newest field completes, once there are twelve.
+    #[tactic(auto, unfolding(crate::specs::Deinterleaver::row_found))]
+    fn row(&self) -> Option<u16>
+        requires { self.now.cursor < 12 }
+        ensures { result ≡ row_found self.now }
+    {
+        (12 <= self.received).then(|| row_of(&self.fields, self.cursor))
+    }
+
+    // One field pushed: the row that it completes, or nothing yet. Refused with State, then Symbol: then the deinterleaver is as it was.
+    #[tactic(auto, unfolding(crate::specs::Deinterleaver::push_row_of))]
+    pub fn push(&mut self, field: u16) -> Result<Option<u16>, Refusal>
+        ensures answer { result ≡ (push_row_of self.old field).answer }
+        ensures moved { self.new ≡ (push_row_of self.old field).deinterleaver }
+    {
+        self.state()?;
+        below(4096, u64::from(field))?;
+        self.store(field);
+        Ok(self.row())
     }
 }

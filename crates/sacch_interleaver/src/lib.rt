@@ -5,35 +5,20 @@
 mod deinterleaver;
 
 ghost use Rattle.std.specs.Prelude.{◌≡◌, ◌+◌, ◌%◌, ◌^◌, ◌<◌, ◌≤◌, length};
+ghost use Rattle.sacch_interleaver.specs.Deinterleaver.{state_unless};
 ghost use Rattle.sacch_interleaver.specs.Diagonal.{all_twelve, field_of, laid_out, row_of};
 
-use bits::{Refusal, both};
-pub use deinterleaver::{one_more, row_found, with_field};
+use bits::Refusal;
 
 // The last twelve fields.
 #[repr(C)]
-#[derive(Clone, Copy)]
+#[derive(Clone, Copy, Debug, PartialEq, Eq)]
 pub struct SacchDeinterleaver {
     pub fields: [u16; 12],
     // The place of the oldest field.
     pub cursor: usize,
     // How many fields were received, up to 12.
     pub received: usize,
-}
-
-// What a push answers: the row that the newest of twelve fields completes, or nothing yet.
-#[derive(Clone, Copy)]
-pub enum RowOutcome {
-    Pending,
-    Row(u16),
-    Refused(Refusal),
-}
-
-// An answer, with the deinterleaver after it.
-#[derive(Clone, Copy)]
-pub struct PushedRow {
-    pub outcome: RowOutcome,
-    pub deinterleaver: SacchDeinterleaver,
 }
 
 // The weight of a bit that is `shift` places above `place`, round in twelve.
@@ -58,35 +43,32 @@ pub fn aged(ring: &[u16], next: usize) -> [u16; 23]
 }
 
 // The field of the newest row's slot, from the last twelve rows; `next` is the place of the oldest. The weights shift, and the rows stay.
-pub fn field_among(rows: &[u16], next: usize) -> u16
-    requires { (length rows.now ≡ 12) × (next < 12) }
+pub fn field_of(rows: &[u16], next: usize) -> u16
+    requires { (length rows.now ≡ 12) × (next ≤ 12) }
     ensures { result ≡ field_of rows.now next }
 {
     let mut field: u16 = 0;
-    for i in 0..12 {
-        field = field | (rows[i] & bit_value(i, 12 - next));
+    for (i, row) in rows.iter().enumerate() {
+        field |= *row & bit_value(i, 12 - next);
     }
     field
 }
 
-// The same of a ring.
-pub fn field_of(rows: [u16; 12], next: usize) -> u16
+// The row that the last twelve fields complete; `next` is the place of the oldest. The diagonal runs back: it is the field of the ring turned round.
+pub fn row_of(fields: &[u16; 12], next: usize) -> u16
     requires { next < 12 }
-    ensures { result ≡ field_of rows next }
+    ensures { result ≡ row_of fields.now next }
 {
-    field_among(&rows, next)
+    let mut turned = *fields;
+    turned.reverse();
+    field_of(&turned, 12 - next)
 }
 
-// The row that the last twelve fields complete; `next` is the place of the oldest.
-pub fn row_of(fields: [u16; 12], next: usize) -> u16
-    requires { next < 12 }
-    ensures { result ≡ row_of fields next }
+// Refused with State where a test of a record is not passed.
+pub fn state_unless(passed: bool) -> Result<(), Refusal>
+    ensures { result ≡ state_unless passed }
 {
-    let mut row: u16 = 0;
-    for i in 0..12 {
-        row = row | (fields[i] & bit_value(11 - i, next));
-    }
-    row
+    if passed { Ok(()) } else { Err(Refusal::State) }
 }
 
 // Whether every row or field has twelve bits.
@@ -94,8 +76,8 @@ pub fn all_twelve(s: &[u16]) -> bool
     ensures { result ≡ all_twelve s.now }
 {
     let mut twelve = true;
-    for i in 0..s.len() {
-        twelve = both(twelve, s[i] < 4096);
+    for x in s {
+        twelve &= *x < 4096;
     }
     twelve
 }

@@ -3,21 +3,16 @@
 #![tactic(auto)]
 
 mod receiver;
-mod state;
-mod stored;
+mod window;
 
-pub use crate::stored::Lock;
 use bits::Refusal;
 use sacch_decoder::SacchWord;
+use sacch_interleaver::SacchDeinterleaver;
 
 // The last twelve fields and the last eleven rows, each packed with the first bit highest.
-#[derive(Clone, Copy)]
+#[derive(Clone, Copy, Debug, PartialEq, Eq)]
 pub struct SacchReceiver {
-    pub fields: [u16; 12],
-    // The place of the oldest field.
-    pub field_cursor: usize,
-    // How many fields were received, up to 12.
-    pub received: usize,
+    pub deinterleaver: SacchDeinterleaver,
     pub rows: [u16; 11],
     // The place of the oldest row.
     pub row_cursor: usize,
@@ -25,35 +20,21 @@ pub struct SacchReceiver {
     pub available: usize,
     // Rows modulo 11.
     pub phase: u8,
-    pub lock: Lock,
+    // Where it is known at which phase words begin, only that phase is tried. A byte holds it, so that it has no padding, which costs at every move.
+    pub locked_phase: Option<u8>,
 }
 
 // What a push answers. A rejection is no refusal: the receiver has moved.
-#[derive(Clone, Copy)]
+#[derive(Clone, Copy, Debug, PartialEq, Eq)]
 pub enum ReceiveOutcome {
     Pending,
     Word(SacchWord),
     Rejected(Refusal),
-    Refused(Refusal),
 }
 
 // An answer, with the receiver after it.
-#[derive(Clone, Copy)]
+#[derive(Clone, Copy, Debug, PartialEq, Eq)]
 pub struct Pushed {
-    pub outcome: ReceiveOutcome,
-    pub receiver: SacchReceiver,
-}
-
-// What `push` answers: rejections and Pending alike are nothing.
-#[derive(Clone, Copy)]
-pub enum Heard {
-    Nothing,
-    Word(SacchWord),
-    Refused(Refusal),
-}
-
-#[derive(Clone, Copy)]
-pub struct PushedWord {
-    pub heard: Heard,
+    pub outcome: Result<ReceiveOutcome, Refusal>,
     pub receiver: SacchReceiver,
 }

@@ -1,199 +1,123 @@
-// The receiver's calls. A record goes in by value and comes back; the last call is lent it.
+// The receiver's calls.
 // Ported from 136-bts, sacch.rs, and changed (see NOTICE).
-ghost use Rattle.std.specs.Prelude.{◌≡◌, ◌<◌};
-ghost use Rattle.sacch_decoder.specs.Decoding.{decode_answer};
-ghost use Rattle.sacch_receiver.specs.Receiver.{fresh_receiver, heard_answer, locked, moved, moved_word, outcome_answer, push_of, push_word_of, row_stored, step_of, trial_answer, trial_lock, tried, with_fields, word_only};
+ghost use Rattle.std.specs.Prelude.{Ok, ◌≡◌, ◌<◌};
+ghost use Rattle.sacch_receiver.specs.Receiver.{fresh_receiver, push_of, moved, push_word_of, row_stored, rows_state, tried};
 
-use crate::state::{deinterleaver_of, receiver_fits};
-use crate::stored::{Lock, decode_window, lock_tries};
-use crate::{Heard, Pushed, PushedWord, ReceiveOutcome, SacchReceiver};
+use crate::window::decode_window;
+use crate::{Pushed, ReceiveOutcome, SacchReceiver};
 use bits::Refusal;
-use sacch_decoder::Decoded;
-use sacch_interleaver::{RowOutcome, SacchDeinterleaver, one_more, row_found, with_field};
+use sacch_decoder::SacchWord;
+use sacch_interleaver::{SacchDeinterleaver, all_twelve, state_unless};
 
-// The word alone: Pending and rejections alike are nothing.
-fn word_only(outcome: ReceiveOutcome) -> Heard
-    ensures { heard_answer result ≡ word_only (outcome_answer outcome) }
-{
-    match outcome {
-        ReceiveOutcome::Pending => Heard::Nothing,
-        ReceiveOutcome::Word(word) => Heard::Word(word),
-        ReceiveOutcome::Rejected(_) => Heard::Nothing,
-        ReceiveOutcome::Refused(why) => Heard::Refused(why),
+impl Default for SacchReceiver {
+    ghost is_default = { λ r. r ≡ fresh_receiver };
+
+    fn default() -> SacchReceiver {
+        SacchReceiver::new()
     }
 }
 
 impl SacchReceiver {
     // A receiver that has heard nothing.
+    #[tactic(auto, unfolding(crate::specs::Receiver::fresh_receiver))]
     pub fn new() -> SacchReceiver
         ensures { result ≡ fresh_receiver }
     {
         SacchReceiver {
-            fields: [0u16; 12],
-            field_cursor: 0,
-            received: 0,
-            rows: [0u16; 11],
+            deinterleaver: SacchDeinterleaver::new(),
+            rows: [0; 11],
             row_cursor: 0,
             available: 0,
             phase: 0,
-            lock: Lock::Unlocked,
+            locked_phase: None,
         }
     }
 
     // After a gap or a handoff: all that was heard is forgotten, whatever the record held.
-    pub fn discontinuity(mut self) -> SacchReceiver
-        ensures { result ≡ fresh_receiver }
+    pub fn discontinuity(&mut self)
+        ensures { self.new ≡ fresh_receiver }
     {
-        self = SacchReceiver::new();
-        self
+        *self = SacchReceiver::new();
     }
 
-    // The deinterleaver that it holds set anew.
-    fn with_fields(mut self, held: SacchDeinterleaver) -> SacchReceiver
-        ensures { result ≡ with_fields self held }
+    // Refused where a number that the receiver holds beside its deinterleaver is out of its range. All tests are made: none is likely to fail.
+    #[tactic(auto, unfolding(crate::specs::Receiver::rows_fit))]
+    fn state(&self) -> Result<(), Refusal>
+        ensures { result ≡ rows_state self.now }
     {
-        let fields = held.fields;
-        self.fields = fields;
-        self.field_cursor = held.cursor;
-        self.received = held.received;
-        self
+        let counts = (self.row_cursor < 11) & (self.available < 12) & (self.phase < 11);
+        let lock = self.locked_phase.is_none_or(|phase| phase < 11);
+        state_unless(counts & lock & all_twelve(&self.rows))
     }
 
     // The row in the place of the oldest, and the phase one on.
-    fn with_row(mut self, row: u16) -> SacchReceiver
-        requires { (self.row_cursor < 11) × (self.phase < 11) }
-        ensures { result ≡ row_stored self row }
+    #[tactic(auto, unfolding(crate::specs::Receiver::row_stored))]
+    fn store(&mut self, row: u16)
+        requires { (self.old.row_cursor < 11) × (self.old.available < 12) × (self.old.phase < 11) }
+        ensures { self.new ≡ row_stored self.old row }
     {
-        let at = self.row_cursor;
-        let available = one_more(self.available, 11);
-        let phase = self.phase;
-        self.rows[at] = row;
-        self.row_cursor = (at + 1) % 11;
-        self.available = available;
-        self.phase = (phase + 1) % 11;
-        self
+        self.rows[self.row_cursor] = row;
+        self.row_cursor = (self.row_cursor + 1) % 11;
+        self.available = (self.available + 1).min(11);
+        self.phase = (self.phase + 1) % 11;
     }
 
-    // The lock set anew.
-    fn with_lock(self, lock: Lock) -> SacchReceiver
-        ensures { result ≡ locked self lock }
+    // Tries the rows where there are eleven and the lock allows this phase. A word locks at this phase, a rejection unlocks.
+    #[tactic(auto, unfolding(crate::specs::Receiver::tried, crate::specs::Receiver::locked))]
+    fn trial(&mut self, dvcc: u8) -> ReceiveOutcome
+        requires { self.old.row_cursor < 11 }
+        ensures answer { Ok result ≡ (tried self.old dvcc).answer }
+        ensures moved { self.new ≡ (tried self.old dvcc).receiver }
     {
-        let fields = self.fields;
-        let rows = self.rows;
-        SacchReceiver {
-            fields,
-            field_cursor: self.field_cursor,
-            received: self.received,
-            rows,
-            row_cursor: self.row_cursor,
-            available: self.available,
-            phase: self.phase,
-            lock,
+        if self.available < 11 || self.locked_phase.is_some_and(|phase| phase != self.phase) {
+            return ReceiveOutcome::Pending;
         }
-    }
-
-    // A word locks at this phase, a rejection unlocks.
-    fn settled(self, found: Decoded) -> Pushed
-        ensures { (outcome_answer result.outcome ≡ trial_answer (decode_answer found)) × (result.receiver ≡ locked self (trial_lock (decode_answer found) self.phase)) }
-    {
-        let phase = self.phase;
-        match found {
-            Decoded::Accepted(word) => {
-                let receiver = self.with_lock(Lock::Locked(phase));
-                Pushed {
-                    outcome: ReceiveOutcome::Word(word),
-                    receiver,
-                }
+        match decode_window(&self.rows, self.row_cursor, dvcc) {
+            Ok(word) => {
+                self.locked_phase = Some(self.phase);
+                ReceiveOutcome::Word(word)
             }
-            Decoded::Refused(why) => {
-                let receiver = self.with_lock(Lock::Unlocked);
-                Pushed {
-                    outcome: ReceiveOutcome::Rejected(why),
-                    receiver,
-                }
+            Err(why) => {
+                self.locked_phase = None;
+                ReceiveOutcome::Rejected(why)
             }
         }
-    }
-
-    // Tries the rows where there are eleven and the lock allows this phase.
-    fn trial(self, dvcc: u8) -> Pushed
-        requires { self.row_cursor < 11 }
-        ensures { moved result ≡ tried self dvcc }
-    {
-        if self.available < 11 {
-            return Pushed {
-                outcome: ReceiveOutcome::Pending,
-                receiver: self,
-            };
-        }
-        let lock = self.lock;
-        let phase = self.phase;
-        if lock_tries(lock, phase) {
-            let rows = self.rows;
-            let next = self.row_cursor;
-            return self.settled(decode_window(rows, next, dvcc));
-        }
-        Pushed {
-            outcome: ReceiveOutcome::Pending,
-            receiver: self,
-        }
-    }
-
-    // An accepted field. A push that yields no row ends there as Pending.
-    fn step(self, field: u16, dvcc: u8) -> Pushed
-        requires { (self.field_cursor < 12) × (self.row_cursor < 11) × (self.phase < 11) }
-        ensures { moved result ≡ step_of self field dvcc }
-    {
-        let held = with_field(deinterleaver_of(self), field);
-        let stored = self.with_fields(held);
-        let found = row_found(held);
-        let RowOutcome::Row(row) = found else {
-            return Pushed {
-                outcome: ReceiveOutcome::Pending,
-                receiver: stored,
-            };
-        };
-        stored.with_row(row).trial(dvcc)
     }
 
     // One field pushed. Refused with State, then Symbol: then the receiver is as it was.
-    pub fn pushed(self, field: u16, dvcc: u8) -> Pushed
-        ensures { moved result ≡ push_of self field dvcc }
+    #[tactic(auto, using(crate::proofs::Pushing::rows_refused, crate::proofs::Pushing::pushed_told))]
+    pub fn push_outcome(&mut self, field: u16, dvcc: u8) -> Result<ReceiveOutcome, Refusal>
+        ensures answer { result ≡ (push_of self.old field dvcc).answer }
+        ensures moved { self.new ≡ (push_of self.old field dvcc).receiver }
     {
-        if !receiver_fits(self) {
-            return Pushed {
-                outcome: ReceiveOutcome::Refused(Refusal::State),
-                receiver: self,
-            };
-        }
-        if 4095 < field {
-            return Pushed {
-                outcome: ReceiveOutcome::Refused(Refusal::Symbol),
-                receiver: self,
-            };
-        }
-        self.step(field, dvcc)
+        self.state()?;
+        let Some(row) = self.deinterleaver.push(field)? else {
+            return Ok(ReceiveOutcome::Pending);
+        };
+        self.store(row);
+        Ok(self.trial(dvcc))
     }
 
     // The same, with a word or nothing as the answer.
-    pub fn push(self, field: u16, dvcc: u8) -> PushedWord
-        ensures { moved_word result ≡ push_word_of self field dvcc }
+    #[tactic(auto, unfolding(crate::specs::Receiver::push_word_of))]
+    pub fn push(&mut self, field: u16, dvcc: u8) -> Result<Option<SacchWord>, Refusal>
+        ensures answer { result ≡ (push_word_of self.old field dvcc).answer }
+        ensures moved { self.new ≡ (push_word_of self.old field dvcc).receiver }
     {
-        let pushed = self.pushed(field, dvcc);
-        let outcome = pushed.outcome;
-        let receiver = pushed.receiver;
-        PushedWord {
-            heard: word_only(outcome),
-            receiver,
+        match self.push_outcome(field, dvcc)? {
+            ReceiveOutcome::Word(word) => Ok(Some(word)),
+            ReceiveOutcome::Pending | ReceiveOutcome::Rejected(_) => Ok(None),
         }
     }
 
-    // The same as `pushed` over a receiver that is lent: taken out, pushed, and written back.
-    pub fn push_outcome(&mut self, field: u16, dvcc: u8) -> ReceiveOutcome
-        ensures { (outcome_answer result ≡ (push_of self.old field dvcc).answer) × (self.new ≡ (push_of self.old field dvcc).receiver) }
+    // The same as `push_outcome`, over a receiver that goes in by value and comes back.
+    pub fn pushed(mut self, field: u16, dvcc: u8) -> Pushed
+        ensures { moved result ≡ push_of self field dvcc }
     {
-        let pushed = (*self).pushed(field, dvcc);
-        *self = pushed.receiver;
-        pushed.outcome
+        let outcome = self.push_outcome(field, dvcc);
+        Pushed {
+            outcome,
+            receiver: self,
+        }
     }
 }

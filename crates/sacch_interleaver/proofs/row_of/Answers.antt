@@ -1,20 +1,8 @@
--- `sacch_interleaver::row_of` meets its contract: each place passed gave the bit of its weight. Assumes nothing.
-use mathlib.Core.Path.{refl}
-use Prim.Native.Nat.{◌+◌, ◌-◌, ◌%◌}
+-- `sacch_interleaver::row_of` meets its contract: the field of the ring turned round is its row. Assumes nothing.
+use mathlib.Core.Path.{◌∙◌}
 use native.Mathlib.Omega.{arith}
-use Rattle.sacch_interleaver.specs.Diagonal.{row_of}
-use Rattle.sacch_interleaver.proofs.Weighing.{weighing_none, weighing_more, weighing_done}
+use Rattle.sacch_interleaver.proofs.Diagonal.{turned_round}
 use Rattle.sacch_interleaver.proofs.row_of.Goals as goal
 
-pub loop-i-init : goal.loop-i-init
-loop-i-init c = weighing_none
-
-pub loop-i-preserved : goal.loop-i-preserved
-loop-i-preserved c =
-    let at = c.loop-i in
-    let next = c.args.next in
-    weighing_more at.invariant ((11 - at.i + next) % 12) (omega arith) (omega arith) (omega arith) (λ t h e. omega arith) refl c.bit_value.ensures
-
 pub returns : goal.returns
-unfolding row_of
-returns c = weighing_done c.loop-i.invariant (omega arith) _ (λ j h. omega arith) (λ t. omega arith)
+returns c = c.field_of.ensures ∙ turned_round c.args.fields.now c.reverse.new.self c.args.next (omega arith) c.requires (λ k h. c.reverse.ensures.by_index k 0 (omega arith))

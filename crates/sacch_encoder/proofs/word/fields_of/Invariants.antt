@@ -1,6 +1,6 @@
 -- `sacch_encoder::word::fields_of` meets its contract: the places filled so far hold their slots' fields. Assumes nothing.
 use mathlib.Core.Path.{◌≡◌}
-use Prim.Native.Nat.{◌+◌, ◌-◌}
+use Prim.Native.Nat.{◌+◌}
 use lib.ListN.{take, drop}
 use Rattle.bits.proofs.Filled.{Filling}
 use Rattle.sacch_interleaver.specs.Diagonal.{field_of}
@@ -8,6 +8,3 @@ use Rattle.sacch_encoder.proofs.word.fields_of.Given as goal
 
 abbrev pub invariant-loop-i : goal.invariant-loop-i
 invariant-loop-i l = Filling (λ k x. x ≡ field_of (take 12 (drop (k + 1) l.run)) 0) 0 11 l.fields l.i
-
-abbrev pub decreases-loop-i : goal.decreases-loop-i
-decreases-loop-i l = 11 - l.i

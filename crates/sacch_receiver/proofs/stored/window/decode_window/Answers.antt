@@ -1,8 +1,0 @@
--- `sacch_receiver::stored::window::decode_window` meets its contract: the bits are 132, so nothing is refused before the search. Assumes nothing.
-use Rattle.sacch_receiver.proofs.Decoded.{window_decoded}
-use Rattle.sacch_receiver.proofs.stored.window.decode_window.Goals as goal
-
-pub returns : goal.returns
-returns c =
-    let a = c.args in
-    window_decoded a.rows a.next a.dvcc c.fill_window.ensures c.decode.ensures
