@@ -1,26 +1,22 @@
--- `write_frame`: the protected bits and class two are the frame. Assumes nothing.
+-- `encode`: the protected bits and class two are the frame. Assumes nothing.
 use mathlib.Core.Path.{◌≡◌, sym, ap, ap₂, ◌∙◌}
 use mathlib.Core.Bool.{Bool, true, false}
 use mathlib.Core.List.{List, ◌++◌}
-use Prim.Native.Nat.{ℕ, ◌*◌}
+use Prim.Native.Nat.{ℕ, ◌+◌, ◌*◌, ◌≤◌}
 use lib.ListN.{length, take, drop, length-map}
 use lib.Seq.{take_at}
+use borrow.Rule.Slice.PartMut.{put_mid}
 use Rattle.bits.specs.Bits.{bits, bytes, byte, all_binary}
-use Rattle.bits.specs.Arguments.{exact_of, binary_of}
-use Rattle.bits.specs.declared.arguments.Arguments.{Arguments}
-use Rattle.bits.specs.declared.arguments.Arguments.TheVariants.{Passed}
 use Rattle.bits.proofs.Binary.{bits-bytes, binary_bytes, bytes-append}
-use Rattle.bits.proofs.Listed.{length-listed}
-use Rattle.bits.proofs.Refusing.{passed_first, passed_exact, passed_binary}
 use Rattle.coding.specs.Codes.{coded, acelp}
 use Rattle.coding.specs.Registers.{memory_low}
 use Rattle.coding.proofs.Coded.{coded-length}
 use Rattle.puncturing.specs.Punctured.{sent_of}
 use Rattle.puncturing.proofs.Kept.{sent_length}
-use Rattle.acelp_cc1.specs.Calls.{encode_arguments}
 use Rattle.acelp_cc1.specs.Frames.{ordered, inputs_of, ordered_frame, frame_of}
 use Rattle.acelp_cc1.proofs.Ordering.{ordered-bytes, bytes_drop}
 use Rattle.acelp_cc1.proofs.Inputs.{inputs_length}
+use Rattle.acelp_cc1.proofs.Parts.{to_end}
 
 -- 208 bits of 108 inputs
 pub protected_length : (m u : List Bool) → length u ≡ 108 → length (sent_of (coded acelp m u)) ≡ 208
@@ -36,25 +32,24 @@ module _ (speech : List ℕ) (binary : all_binary speech ≡ true) {sorted : Lis
   sorted_bits : bits sorted ≡ order
   sorted_bits = ap bits sorted_bytes ∙ bits-bytes order
 
-  pub sorted_passed : (length sorted ≡ 148) × (all_binary sorted ≡ true)
-  unfolding ordered
-  sorted_passed = (ap length e ∙ length-listed 148 _, ap all_binary sorted_bytes ∙ binary_bytes order)
+  pub sorted_binary : all_binary sorted ≡ true
+  sorted_binary = ap all_binary sorted_bytes ∙ binary_bytes order
 
   module _ {inputs : List ℕ} (f : inputs ≡ bytes (inputs_of (bits sorted))) where
-    pub inputs_passed : (length inputs ≡ 108) × (all_binary inputs ≡ true)
-    inputs_passed = (ap length f ∙ length-map (inputs_of (bits sorted)) byte ∙ inputs_length (bits sorted), ap all_binary f ∙ binary_bytes (inputs_of (bits sorted)))
+    pub inputs_binary : all_binary inputs ≡ true
+    inputs_binary = ap all_binary f ∙ binary_bytes (inputs_of (bits sorted))
 
     inputs_bits : bits inputs ≡ inputs_of order
     inputs_bits = ap bits f ∙ bits-bytes (inputs_of (bits sorted)) ∙ ap inputs_of sorted_bits
 
-    pub framed : (frame : List ℕ) {frame₁ frame₂ : List ℕ} → frame₁ ≡ bytes (sent_of (coded acelp (memory_low 0) (bits inputs))) ++ drop 208 frame
-        → frame₂ ≡ take 208 frame₁ ++ drop 96 sorted → frame₂ ≡ bytes (frame_of (bits speech))
+    pub framed : (frame : List ℕ) (n : ℕ) {frame₁ two : List ℕ} → length frame₁ ≤ 208 + n → frame₁ ≡ bytes (sent_of (coded acelp (memory_low 0) (bits inputs))) ++ drop 208 frame
+        → two ≡ drop 96 sorted → put_mid 208 n frame₁ two ≡ bytes (frame_of (bits speech))
     unfolding frame_of ordered_frame
-    framed frame {frame₁} {frame₂} e₁ e₂ =
+    framed frame n {frame₁} {two} size e₁ e₂ =
         let protected : List Bool = sent_of (coded acelp (memory_low 0) (inputs_of order)) in
         let long : length (bytes protected) ≡ 208 = length-map protected byte ∙ protected_length (memory_low 0) (inputs_of order) (inputs_length order) in
         let sent : frame₁ ≡ bytes protected ++ drop 208 frame =
         e₁ ∙ ap (λ (u : List Bool). bytes (sent_of (coded acelp (memory_low 0) u)) ++ drop 208 frame) inputs_bits in
-        e₂
-        ∙ ap₂ (λ (a b : List ℕ). a ++ b) (ap (take 208) sent ∙ take_at (bytes protected) (drop 208 frame) 208 long) (ap (drop 96) sorted_bytes ∙ bytes_drop 96 order)
+        to_end 208 n frame₁ two size
+        ∙ ap₂ (λ (a b : List ℕ). a ++ b) (ap (take 208) sent ∙ take_at (bytes protected) (drop 208 frame) 208 long) (e₂ ∙ ap (drop 96) sorted_bytes ∙ bytes_drop 96 order)
         ∙ sym (bytes-append protected (drop 96 order))

@@ -45,11 +45,11 @@ parity_bytes : (sorted : List ℕ) {checksum : ℕ} → checksum ≡ checksum7_o
 unfolding parity_of
 parity_bytes sorted e = ap (λ (n : ℕ). bytes (unpacked 7 n)) (e ∙ ap checksum7_of (bits-take 48 sorted))
 
-pub filled : (sorted : List ℕ) {information positions parity inputs inputs₁ inputs₂ : List ℕ} {checksum : ℕ} → all_binary sorted ≡ true
+pub filled : (sorted : List ℕ) {information parity inputs inputs₁ inputs₂ : List ℕ} {checksum : ℕ} → all_binary sorted ≡ true
     → information ≡ information_places → inputs ≡ replicate 108 0 → inputs₁ ≡ put information sorted inputs
     → checksum ≡ checksum7_of (bits (take 48 sorted)) → parity ≡ bytes (unpacked 7 checksum)
-    → positions ≡ parity_places → inputs₂ ≡ put positions parity inputs₁ → inputs₂ ≡ bytes (inputs_of (bits sorted))
-filled sorted {inputs₁ = inputs₁} {inputs₂ = inputs₂} b ei ez e₁ ec ep eq e₂ =
+    → inputs₂ ≡ put parity_places parity inputs₁ → inputs₂ ≡ bytes (inputs_of (bits sorted))
+filled sorted {inputs₁ = inputs₁} {inputs₂ = inputs₂} b ei ez e₁ ec ep e₂ =
     ext_get_or 0 inputs₂ (bytes (inputs_of (bits sorted))) (size ∙ sym (length-map (inputs_of (bits sorted)) byte ∙ inputs_length (bits sorted)))
     (λ p h. at p (omega (arith, size)))
   where
@@ -61,7 +61,7 @@ filled sorted {inputs₁ = inputs₁} {inputs₂ = inputs₂} b ei ez e₁ ec ep
 
     both : inputs₂ ≡ put parity_places (bytes (parity_of (bits sorted))) first
     both =
-        e₂ ∙ ap₂ (λ (p q : List ℕ). put p q inputs₁) eq (ep ∙ parity_bytes sorted ec)
+        e₂ ∙ ap (λ (q : List ℕ). put parity_places q inputs₁) (ep ∙ parity_bytes sorted ec)
         ∙ ap (put parity_places (bytes (parity_of (bits sorted)))) (e₁ ∙ ap₂ (λ (p q : List ℕ). put p sorted q) ei ez)
 
     long : length first ≡ 108

@@ -5,13 +5,13 @@ use mathlib.Core.Bool.{Bool}
 use mathlib.Core.List.{List, reverse}
 use Prim.Native.Nat.{ℕ}
 use native.Mathlib.Omega.{arith}
-use Rattle.bits.specs.Refusals.{refused}
+use Rattle.std.specs.Prelude.{Err}
 use Rattle.bits.specs.declared.Refusal.TheVariants as refusal
 use Rattle.trellis.specs.Search.{Ambiguous}
 use Rattle.trellis.specs.Words.{Terminated}
 use Rattle.trellis.proofs.AllWords.{terminated_lists}
 use Rattle.trellis.proofs.Decided.{Decided, nearest_decide, only_shared}
-use Rattle.acelp_cc1.specs.Calls.{Exit, frame_weight, refused_exit, accepted_exit, decode_of}
+use Rattle.acelp_cc1.specs.Calls.{Exit, refused_exit, frame_weight, accepted_exit, decode_of}
 
 module _ (frame speech : List ℕ) where
   -- what a word alone decides, with its disagreements
@@ -22,6 +22,6 @@ module _ (frame speech : List ℕ) where
   unfolding decode_of
   acelp-decided = nearest_decide (terminated_lists 108 (omega arith)) (frame_weight frame) by_word (refused_exit refusal.Ambiguous speech)
 
-  pub acelp_only_ambiguous : (decode_of frame speech).answer ≡ refused refusal.Ambiguous → Ambiguous (Terminated 108) (frame_weight frame)
+  pub acelp_only_ambiguous : (decode_of frame speech).answer ≡ Err refusal.Ambiguous → Ambiguous (Terminated 108) (frame_weight frame)
   unfolding accepted_exit
   acelp_only_ambiguous = only_shared acelp-decided (λ x. x.answer) (λ w n e. let z : ◌≡◌ {A = ℕ} 0 1 = cc in omega arith)

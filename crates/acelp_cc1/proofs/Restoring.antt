@@ -2,25 +2,27 @@
 use mathlib.Core.Path.{◌≡◌, refl, sym, ap, ap₂, subst, ◌∙◌}
 use mathlib.Core.Bool.{Bool, true, false}
 use mathlib.Core.List.{List, ◌++◌}
-use Prim.Native.Nat.{ℕ, ◌^◌, ◌<◌, ◌≤◌}
+use Prim.Native.Nat.{ℕ, ◌^◌, ◌<◌}
 use native.Mathlib.Omega.{arith}
 use lib.Dec.{eqb}
-use lib.ListN.{length, get_or, take, drop, length-map}
-use lib.Seq.{take-append-le}
+use lib.ListN.{length, get_or, take, drop}
+use lib.Seq.{take-append-le, length_front}
+use borrow.Rule.Slice.PartMut.{put_mid}
 use Rattle.bits.specs.Bits.{bits, bytes, byte, all_binary}
 use Rattle.bits.specs.Numbers.{packed}
 use Rattle.bits.specs.Places.{listed}
-use Rattle.bits.specs.Refusals.{Answer, accepted}
+use Rattle.std.specs.Prelude.{Ok}
 use Rattle.bits.proofs.Binary.{bits-bytes, bytes_bits, bits-take, binary_bytes, bytes-append}
 use Rattle.bits.proofs.LentPart.{became}
 use Rattle.bits.proofs.Listed.{length-listed, get_d_listed, map-taken, is_listed}
 use Rattle.bits.proofs.Packed.{packed_below, packed-unpacked_below}
 use Rattle.checksums.specs.Checksums.{checksum7_of, check_bits, speech}
 use Rattle.checksums.proofs.Division.{check_bits-length}
-use Rattle.acelp_cc1.specs.Calls.{Told, inputs_valid, accepted_exit}
+use Rattle.acelp_cc1.specs.Calls.{exit_of, inputs_valid, accepted_exit}
 use Rattle.acelp_cc1.specs.Frames.{speech_order, information_place, information_places, parity_places, parity_of, class_one_of, check_of, unordered}
 use Rattle.acelp_cc1.specs.Places.{taken, put}
 use Rattle.acelp_cc1.proofs.Ordering.{bytes_drop, put-unordered, unordered-bytes}
+use Rattle.acelp_cc1.proofs.Parts.{to_end}
 use Rattle.acelp_cc1.proofs.Placing.{information_size}
 
 -- ---- bits of the inputs
@@ -42,27 +44,23 @@ module _ (inputs : List ℕ) (binary : all_binary inputs ≡ true) where
   class_one_lem e f =
       f ∙ ap (λ (p : List ℕ). taken p inputs) e ∙ taken-bytes 96 information_places inputs information_size binary ∙ ap bytes (class_one_listed (bits inputs))
 
-  pub check_bytes : {positions parity : List ℕ} → positions ≡ parity_places → parity ≡ taken positions inputs → parity ≡ bytes (check_of (bits inputs))
+  check_bytes : {parity : List ℕ} → parity ≡ taken parity_places inputs → parity ≡ bytes (check_of (bits inputs))
   unfolding check_of
-  check_bytes e f = f ∙ ap (λ (p : List ℕ). taken p inputs) e ∙ taken-bytes 7 parity_places inputs refl binary
+  check_bytes f = f ∙ taken-bytes 7 parity_places inputs refl binary
 
-  pub check_passed : {positions parity : List ℕ} → positions ≡ parity_places → parity ≡ taken positions inputs → (length parity ≤ 64) × (all_binary parity ≡ true)
-  unfolding check_of
-  check_passed e f =
-      let q = check_bytes e f in
-      (omega (arith, ap length q ∙ length-map (check_of (bits inputs)) byte ∙ length-listed 7 _), ap all_binary q ∙ binary_bytes (check_of (bits inputs)))
+  pub check_binary : {parity : List ℕ} → parity ≡ taken parity_places inputs → all_binary parity ≡ true
+  check_binary f = ap all_binary (check_bytes f) ∙ binary_bytes (check_of (bits inputs))
 
-  pub check_value : {positions parity : List ℕ} {r : ℕ} → positions ≡ parity_places → parity ≡ taken positions inputs → r ≡ packed (bits parity)
-      → r ≡ packed (check_of (bits inputs))
-  check_value e f g = g ∙ ap (λ (l : List ℕ). packed (bits l)) (check_bytes e f) ∙ ap packed (bits-bytes (check_of (bits inputs)))
+  pub check_value : {parity : List ℕ} {r : ℕ} → parity ≡ taken parity_places inputs → r ≡ packed (bits parity) → r ≡ packed (check_of (bits inputs))
+  check_value f g = g ∙ ap (λ (l : List ℕ). packed (bits l)) (check_bytes f) ∙ ap packed (bits-bytes (check_of (bits inputs)))
 
   -- the class-one bits in the first 96 places of sorted, then class two
-  pub restored : (frame sorted : List ℕ) {information part sorted₁ : List ℕ} → all_binary frame ≡ true → 96 ≤ length sorted → information ≡ information_places
-      → length part ≡ length (take 96 sorted) → part ≡ taken information inputs → sorted₁ ≡ take 96 (part ++ drop 96 sorted) ++ drop 208 frame
-      → sorted₁ ≡ bytes (class_one_of (bits inputs) ++ drop 208 (bits frame))
-  restored frame sorted b h e kept f g =
-      g
-      ∙ ap₂ (λ (x y : List ℕ). x ++ y) (became 96 sorted h _ kept ∙ class_one_lem e f) (ap (drop 208) (sym (bytes_bits frame b)) ∙ bytes_drop 208 (bits frame))
+  pub restored : (frame sorted : List ℕ) {information part two : List ℕ} → all_binary frame ≡ true → length sorted ≡ 148 → information ≡ information_places
+      → length part ≡ length (take 96 sorted) → part ≡ taken information inputs → two ≡ drop 208 frame
+      → put_mid 96 52 (part ++ drop 96 sorted) two ≡ bytes (class_one_of (bits inputs) ++ drop 208 (bits frame))
+  restored frame sorted {part = part} {two = two} b h e kept f g =
+      to_end 96 52 (part ++ drop 96 sorted) two (omega (arith, length_front sorted part 96 kept))
+      ∙ ap₂ (λ (x y : List ℕ). x ++ y) (became 96 sorted (omega arith) part kept ∙ class_one_lem e f) (g ∙ ap (drop 208) (sym (bytes_bits frame b)) ∙ bytes_drop 208 (bits frame))
       ∙ sym (bytes-append (class_one_of (bits inputs)) (drop 208 (bits frame)))
 
 -- ---- the checksum
@@ -89,14 +87,12 @@ module _ (u w : List Bool) {sorted : List ℕ} (e : sorted ≡ bytes (class_one_
   unfolding inputs_valid
   valid_value g f = ap₂ eqb g (sym (parity_value f))
 
-  pub accepted_end : (frame speech₀ : List ℕ) {places written : List ℕ} {received checksum corrected : ℕ} {answer : Answer Told} → w ≡ drop 208 (bits frame) → length speech₀ ≡ 148
+  pub accepted_end : (frame speech₀ : List ℕ) {places written : List ℕ} {received checksum corrected : ℕ} → w ≡ drop 208 (bits frame) → length speech₀ ≡ 148
       → received ≡ packed (check_of u) → checksum ≡ checksum7_of (bits (take 48 sorted)) → places ≡ speech_order → written ≡ put places sorted speech₀
-      → answer ≡ accepted (record { valid = eqb received checksum; corrected = corrected }) → record { answer = answer; speech = written } ≡ accepted_exit frame u corrected
+      → exit_of (Ok (record { crc_valid = eqb received checksum; corrected = corrected })) written ≡ accepted_exit frame u corrected
   unfolding accepted_exit
-  accepted_end frame speech₀ {written = written} {corrected = corrected} {answer = answer} two room g f ep ew ea =
-      let told : answer ≡ accepted (record { valid = inputs_valid u; corrected = corrected }) =
-      ea ∙ ap (λ (t : Bool). accepted (record { valid = t; corrected = corrected })) (valid_value g f) in
+  accepted_end frame speech₀ {written = written} {corrected = corrected} two room g f ep ew =
       let bytes-are : written ≡ bytes (unordered false (class_one_of u ++ drop 208 (bits frame))) =
       put-unordered sorted speech₀ room ep ew ∙ ap (unordered 0) e ∙ unordered-bytes (class_one_of u ++ w)
       ∙ ap (λ (v : List Bool). bytes (unordered false (class_one_of u ++ v))) two in
-      λ i. record { answer = told i; speech = bytes-are i }
+      λ i. record { answer = Ok (record { crc_valid = valid_value g f i; corrected = corrected }); speech = bytes-are i }

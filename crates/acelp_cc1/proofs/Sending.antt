@@ -1,13 +1,19 @@
 -- `send`: the outputs of the two generators by turns are the coded bits, and four runs of them are sent. Assumes nothing.
-use mathlib.Core.Path.{◌≡◌, refl, sym, ap, ap₂, ◌∙◌}
-use mathlib.Core.Bool.{Bool}
-use mathlib.Core.List.{List, [], ◌∷◌, ◌++◌, append_assoc, reverse}
+use mathlib.Core.Path.{◌≡◌, refl, sym, ap, ap₂, subst, ◌∙◌}
+use mathlib.Core.Bool.{Bool, true}
+use mathlib.Core.List.{List, [], ◌∷◌, ◌++◌, append_assoc, append-nil, reverse}
 use Prim.Native.Nat.{ℕ, zero, suc, ◌+◌, ◌*◌, ◌<◌, ◌≤◌}
 use native.Mathlib.Omega.{arith}
-use lib.ListN.{length, get_or, set, take, drop, length-drop, take-append-drop}
-use lib.Seq.{paste, paste-zero, paste-suc, length-paste, take-paste, drop-paste, get_or-drop, drop-drop}
-use Rattle.bits.specs.Bits.{bits, bytes, byte}
+use native.Mathlib.Numerals.{add-one}
+use lib.ListN.{length, get_or, set, take, drop, length-append, length-drop, take-append-drop}
+use lib.Seq.{drop-drop, length-take-le}
+use borrow.Rule.Slice.PartMut.{put_mid, post_of}
+use Rattle.std.proofs.lemmas.Slice.{take-put_mid, drop-put_mid}
+use Rattle.bits.specs.Bits.{bits, bytes, byte, all_below, all_binary}
 use Rattle.bits.proofs.Binary.{bytes-append}
+use Rattle.bits.proofs.Filled.{Filling, filling_more}
+use Rattle.bits.proofs.Listed.{is_listed}
+use Rattle.bits.proofs.Scattered.{filled_listed}
 use Rattle.coding.specs.Codes.{tapped, coded, acelp}
 use Rattle.coding.specs.Registers.{memory_low}
 use Rattle.puncturing.specs.Punctured.{sent_of}
@@ -15,13 +21,6 @@ use Rattle.acelp_cc1.specs.Places.{by_turns}
 use Rattle.acelp_cc1.proofs.Ordering.{bytes_drop}
 
 -- ---- lists by turns
-turns_room : (n : ℕ) (k l : List ℕ) → n ≤ length k → n ≤ length l → n * 2 ≤ length (by_turns k l)
-unfolding by_turns
-turns_room zero k l hk hl = omega arith
-turns_room (suc n) [] l hk hl = absurd (omega arith)
-turns_room (suc n) (x ∷ k) [] hk hl = absurd (omega arith)
-turns_room (suc n) (x ∷ k) (y ∷ l) hk hl = omega (arith, turns_room n k l (omega arith) (omega arith))
-
 twice : (i : ℕ) → suc i * 2 ≡ suc (suc (i * 2))
 twice i = omega arith
 
@@ -53,70 +52,50 @@ turns_drop (suc n) [] l = ap (λ (m : ℕ). drop {A = ℕ} m []) (twice n)
 turns_drop (suc n) (x ∷ k) [] = ap (λ (m : ℕ). drop {A = ℕ} m []) (twice n) ∙ sym (turns_none (drop n k))
 turns_drop (suc n) (x ∷ k) (y ∷ l) = ap (λ (m : ℕ). drop m (x ∷ y ∷ by_turns k l)) (twice n) ∙ turns_drop n k l
 
--- ---- the loop of `send_run`: i pairs are written
-pub record Pairing (first second frame₀ frame : List ℕ) (from at i : ℕ) : Type 0 where
-  pub low : i ≤ 26
-  pub so_far : frame ≡ paste frame₀ at (by_turns (drop from first) (drop from second)) (i * 2)
+turns_take : (n : ℕ) (k l : List ℕ) → take (n * 2) (by_turns k l) ≡ by_turns (take n k) (take n l)
+unfolding by_turns
+turns_take zero k l = refl
+turns_take (suc n) [] l = ap (λ (m : ℕ). take {A = ℕ} m []) (twice n)
+turns_take (suc n) (x ∷ k) [] = ap (λ (m : ℕ). take {A = ℕ} m []) (twice n)
+turns_take (suc n) (x ∷ k) (y ∷ l) = ap (λ (m : ℕ). take m (x ∷ y ∷ by_turns k l)) (twice n) ∙ ap (λ (r : List ℕ). x ∷ y ∷ r) (turns_take n k l)
 
-pub pairing_none : {first second frame : List ℕ} {from at : ℕ} → Pairing first second frame frame from at 0
-pairing_none {first} {second} {frame} {from} {at} =
-    record { low = omega arith; so_far = paste-zero frame at (by_turns (drop from first) (drop from second)) }
+turns_length : (k l : List ℕ) → length l ≡ length k → length (by_turns k l) ≡ length k * 2
+unfolding by_turns
+turns_length [] l e = refl
+turns_length (x ∷ k) [] e = absurd (omega arith)
+turns_length (x ∷ k) (y ∷ l) e = omega (arith, turns_length k l (omega arith))
 
-module _ {first second frame₀ frame : List ℕ} {from at i : ℕ} (p : Pairing first second frame₀ frame from at i)
-    (one : from + 26 ≤ length first) (two : from + 26 ≤ length second) (room : at + 52 ≤ length frame₀) where
-  abbrev source : List ℕ
-  source = by_turns (drop from first) (drop from second)
+-- ---- the loop of `send_pairs`: i pairs are written
+abbrev pub Pairing : List ℕ → List ℕ → List ℕ → ℕ → Type 0
+Pairing first second pairs i = Filling (λ k x. x ≡ get_or (by_turns first second) k 0) 0 (length first * 2) pairs (i * 2)
 
-  enough : 52 ≤ length source
-  enough = turns_room 26 (drop from first) (drop from second) (omega (arith, length-drop from first)) (omega (arith, length-drop from second))
-
-  pub pairing_length : length frame ≡ length frame₀
-  pairing_length = ap length p.so_far ∙ length-paste frame₀ at source (i * 2) (omega (arith, p.low)) (omega (arith, p.low, enough))
-
-  pub pairing_more : i < 26 → Pairing first second frame₀ (set (set frame (at + i * 2) (get_or first (from + i) 0)) (at + i * 2 + 1) (get_or second (from + i) 0)) from at (i + 1)
+module _ (first second : List ℕ) (same : length second ≡ length first) {pairs : List ℕ} {i : ℕ} (p : Pairing first second pairs i) where
+  pub pairing_more : i < length first → Pairing first second (set (set pairs (i * 2) (get_or first i 0)) (i * 2 + 1) (get_or second i 0)) (i + 1)
   pairing_more h =
-      let x : get_or first (from + i) 0 ≡ get_or source (i * 2) 0 =
-      sym (turns_first i (drop from first) (drop from second) (omega (arith, length-drop from first)) (omega (arith, length-drop from second)) ∙ get_or-drop from first i 0) in
-      let y : get_or second (from + i) 0 ≡ get_or source (suc (i * 2)) 0 =
-      sym (turns_second i (drop from first) (drop from second) (omega (arith, length-drop from first)) (omega (arith, length-drop from second)) ∙ get_or-drop from second i 0) in
-      let half : set frame (at + i * 2) (get_or first (from + i) 0) ≡ paste frame₀ at source (suc (i * 2)) =
-      ap₂ (λ (l : List ℕ) (v : ℕ). set l (at + i * 2) v) p.so_far x ∙ paste-suc frame₀ at source (i * 2) 0 (omega arith) (omega (arith, enough)) in
-      let place : at + i * 2 + 1 ≡ at + suc (i * 2) = omega arith in
-      let all : suc (suc (i * 2)) ≡ (i + 1) * 2 = omega arith in
-      record {
-        low = omega arith;
-        so_far =
-            ap₂ (λ (l : List ℕ) (v : ℕ). set l (at + i * 2 + 1) v) half y
-            ∙ ap (λ (n : ℕ). set (paste frame₀ at source (suc (i * 2))) n (get_or source (suc (i * 2)) 0)) place
-            ∙ paste-suc frame₀ at source (suc (i * 2)) 0 (omega arith) (omega (arith, enough)) ∙ ap (paste frame₀ at source) all;
-      }
+      let at : i * 2 + 1 ≡ suc (i * 2) = omega arith in
+      let y : get_or second i 0 ≡ get_or (by_turns first second) (i * 2 + 1) 0 =
+      sym (ap (λ (n : ℕ). get_or (by_turns first second) n 0) at ∙ turns_second i first second h (omega arith)) in
+      let e : i * 2 + 1 + 1 ≡ (i + 1) * 2 = omega arith in
+      subst (Filling (λ k x. x ≡ get_or (by_turns first second) k 0) 0 (length first * 2) _) e
+      (filling_more (filling_more p _ (omega arith) (sym (turns_first i first second h (omega arith)))) _ (omega arith) y)
 
-  pub pairing_done : 26 ≤ i → frame ≡ paste frame₀ at source 52
-  pairing_done h = let e : i * 2 ≡ 52 = omega (arith, p.low) in p.so_far ∙ ap (paste frame₀ at source) e
+  pub pairing_done : length first ≤ i → pairs ≡ by_turns first second
+  pairing_done h =
+      filled_listed p (omega arith) ∙ sym (is_listed (length first * 2) _ 0 (by_turns first second) (turns_length first second same) (λ k b. refl))
 
--- ---- `send_runs`: what is written up to a place, and the rest is as it was
-record Sent (frame₀ frame : List ℕ) (at : ℕ) (out : List ℕ) : Type 0 where
-  size : length frame ≡ 260
-  front : take at frame ≡ out
-  rest : drop at frame ≡ drop at frame₀
+-- ---- the loop of `send_runs`: so many runs are written, and the rest is as it was
+module _ (first second : List ℕ) where
+  abbrev pub run_from : ℕ → List ℕ
+  run_from n = by_turns (take 26 (drop n first)) (take 26 (drop n second))
 
-module _ (first second : List ℕ) (one : length first ≡ 108) (two : length second ≡ 108) where
-  abbrev run_from : ℕ → List ℕ
-  run_from n = take 52 (by_turns (drop n first) (drop n second))
+  abbrev pub runs_of : ℕ → List ℕ
+  runs_of zero = []
+  runs_of (suc n) = runs_of n ++ run_from (n * 27)
 
-  sent_run : (n : ℕ) {frame₀ frame frame' out : List ℕ} {at : ℕ} → n + 26 ≤ 108 → at + 52 ≤ 260 → Sent frame₀ frame at out
-      → frame' ≡ paste frame at (by_turns (drop n first) (drop n second)) 52 → Sent frame₀ frame' (at + 52) (out ++ run_from n)
-  sent_run n {frame₀} {frame} {frame'} {out} {at} h room s e =
-      let source : List ℕ = by_turns (drop n first) (drop n second) in
-      let enough : 52 ≤ length source =
-      turns_room 26 (drop n first) (drop n second) (omega (arith, length-drop n first)) (omega (arith, length-drop n second)) in
-      record {
-        size = ap length e ∙ length-paste frame at source 52 (omega (arith, s.size)) enough ∙ s.size;
-        front = ap (take (at + 52)) e ∙ take-paste frame at source 52 (omega (arith, s.size)) enough ∙ ap (λ (l : List ℕ). l ++ take 52 source) s.front;
-        rest =
-            ap (drop (at + 52)) e ∙ drop-paste frame at source 52 (omega (arith, s.size)) enough
-            ∙ sym (drop-drop 52 at frame) ∙ ap (drop 52) s.rest ∙ drop-drop 52 at frame₀;
-      }
+  pub record Sent (frame₀ frame : List ℕ) (run : ℕ) : Type 0 where
+    pub size : length frame ≡ 260
+    pub front : take (run * 52) frame ≡ runs_of run
+    pub rest : drop (run * 52) frame ≡ drop (run * 52) frame₀
 
   bytes_take : (n : ℕ) (w : List Bool) → take n (bytes w) ≡ bytes (take n w)
   bytes_take zero w = refl
@@ -124,19 +103,39 @@ module _ (first second : List ℕ) (one : length first ≡ 108) (two : length se
   bytes_take (suc n) (b ∷ w) = ap (λ (l : List ℕ). byte b ∷ l) (bytes_take n w)
 
   run_bytes : (n : ℕ) (c : List Bool) → by_turns first second ≡ bytes c → run_from n ≡ bytes (take 52 (drop (n * 2) c))
-  run_bytes n c e = ap (take 52) (sym (turns_drop n first second) ∙ ap (drop (n * 2)) e ∙ bytes_drop (n * 2) c) ∙ bytes_take 52 (drop (n * 2) c)
+  run_bytes n c e =
+      sym (turns_take 26 (drop n first) (drop n second)) ∙ ap (take 52) (sym (turns_drop n first second) ∙ ap (drop (n * 2)) e ∙ bytes_drop (n * 2) c)
+      ∙ bytes_take 52 (drop (n * 2) c)
 
-  pub sent_runs : (frame : List ℕ) {frame₁ frame₂ frame₃ frame₄ : List ℕ} → length frame ≡ 260
-      → frame₁ ≡ paste frame 0 (by_turns (drop 0 first) (drop 0 second)) 52 → frame₂ ≡ paste frame₁ 52 (by_turns (drop 27 first) (drop 27 second)) 52
-      → frame₃ ≡ paste frame₂ 104 (by_turns (drop 54 first) (drop 54 second)) 52 → frame₄ ≡ paste frame₃ 156 (by_turns (drop 81 first) (drop 81 second)) 52
-      → (c : List Bool) → by_turns first second ≡ bytes c → frame₄ ≡ bytes (sent_of c) ++ drop 208 frame
+  module _ (one : length first ≡ 108) (two : length second ≡ 108) {frame₀ frame : List ℕ} {run : ℕ} (s : Sent frame₀ frame run) where
+    run_length : run < 4 → length (run_from (run * 27)) ≡ 52
+    run_length h =
+        let from : ℕ = run * 27 in
+        let a : length (take 26 (drop from first)) ≡ 26 = length-take-le 26 (drop from first) (omega (arith, length-drop from first)) in
+        let b : length (take 26 (drop from second)) ≡ 26 = length-take-le 26 (drop from second) (omega (arith, length-drop from second)) in
+        omega (arith, turns_length (take 26 (drop from first)) (take 26 (drop from second)) (b ∙ sym a))
+
+    pub sent_more : {part : List ℕ} {n m : ℕ} → run < 4 → n ≡ 52 → m ≡ 26 → part ≡ by_turns (take m (drop (run * 27) first)) (take m (drop (run * 27) second))
+        → Sent frame₀ (put_mid (run * 52) n frame part) (run + 1)
+    sent_more {part} {n} h en em told =
+        let e : part ≡ run_from (run * 27) = told ∙ ap (λ (j : ℕ). by_turns (take j (drop (run * 27) first)) (take j (drop (run * 27) second))) em in
+        let long : length part ≡ 52 = ap length e ∙ run_length h in
+        let next : (run + 1) * 52 ≡ run * 52 + 52 = omega arith in
+        let room : run * 52 ≤ length frame = omega (arith, s.size) in
+        let more : runs_of (run + 1) ≡ runs_of run ++ run_from (run * 27) = ap runs_of (add-one run) in
+        record {
+          size = omega (arith, length-append (take (run * 52) frame) (part ++ post_of (run * 52) n frame), length-append part (post_of (run * 52) n frame), length-take-le (run * 52) frame room, length-drop n (drop (run * 52) frame), length-drop (run * 52) frame, s.size);
+          front =
+              take-put_mid (run * 52) n frame part ((run + 1) * 52) (omega arith) room ∙ ap₂ (λ (k l : List ℕ). k ++ l) s.front e ∙ sym more;
+          rest =
+              drop-put_mid (run * 52) n frame part ((run + 1) * 52) (omega arith) room (long ∙ sym en)
+              ∙ ap (λ (m : ℕ). drop m frame) next ∙ sym (drop-drop 52 (run * 52) frame) ∙ ap (drop 52) s.rest ∙ drop-drop 52 (run * 52) frame₀
+              ∙ ap (λ (m : ℕ). drop m frame₀) (sym next);
+        }
+
+  pub sent_done : {frame₀ frame : List ℕ} → Sent frame₀ frame 4 → (c : List Bool) → by_turns first second ≡ bytes c → frame ≡ bytes (sent_of c) ++ drop 208 frame₀
   unfolding sent_of
-  sent_runs frame {frame₁} {frame₂} {frame₃} {frame₄} size e₁ e₂ e₃ e₄ c e =
-      let s₀ : Sent frame frame 0 [] = record { size = size; front = refl; rest = refl } in
-      let s₁ : Sent frame frame₁ 52 (run_from 0) = sent_run 0 (omega arith) (omega arith) s₀ e₁ in
-      let s₂ : Sent frame frame₂ 104 (run_from 0 ++ run_from 27) = sent_run 27 (omega arith) (omega arith) s₁ e₂ in
-      let s₃ : Sent frame frame₃ 156 ((run_from 0 ++ run_from 27) ++ run_from 54) = sent_run 54 (omega arith) (omega arith) s₂ e₃ in
-      let s₄ : Sent frame frame₄ 208 (((run_from 0 ++ run_from 27) ++ run_from 54) ++ run_from 81) = sent_run 81 (omega arith) (omega arith) s₃ e₄ in
+  sent_done {frame₀} {frame} s c e =
       let a : List Bool = take 52 c in
       let b : List Bool = take 52 (drop 54 c) in
       let d : List Bool = take 52 (drop 108 c) in
@@ -150,7 +149,7 @@ module _ (first second : List ℕ) (one : length first ≡ 108) (two : length se
       (bytes-append a b ∙ ap₂ (λ (k l : List ℕ). k ++ l) (sym (run_bytes 0 c e)) (sym (run_bytes 27 c e)))
       (sym (run_bytes 54 c e)))
       (sym (run_bytes 81 c e)) in
-      sym (take-append-drop 208 frame₄) ∙ ap₂ (λ (k l : List ℕ). k ++ l) (s₄.front ∙ sym out) s₄.rest
+      sym (take-append-drop 208 frame) ∙ ap₂ (λ (k l : List ℕ). k ++ l) (s.front ∙ sym out) s.rest
 
 -- ---- `send`: the inputs after five zeros
 coded_turns : (m u : List Bool) → by_turns (bytes (coded (take 1 acelp) m u)) (bytes (coded (drop 1 acelp) m u)) ≡ bytes (coded acelp m u)
@@ -159,7 +158,17 @@ coded_turns m [] = refl
 coded_turns m (x ∷ u) =
     ap (λ (l : List ℕ). byte (tapped (get_or acelp 0 []) (x ∷ m)) ∷ byte (tapped (get_or acelp 1 []) (x ∷ m)) ∷ l) (coded_turns (x ∷ m) u)
 
-module _ (inputs : List ℕ) {line : List ℕ} (e : line ≡ 0 ∷ 0 ∷ 0 ∷ 0 ∷ 0 ∷ inputs) where
+module _ (inputs : List ℕ) {part : List ℕ} (copied : part ≡ inputs) where
+  abbrev line : List ℕ
+  line = 0 ∷ 0 ∷ 0 ∷ 0 ∷ 0 ∷ (part ++ [])
+
+  e : line ≡ 0 ∷ 0 ∷ 0 ∷ 0 ∷ 0 ∷ inputs
+  e = ap (λ (l : List ℕ). 0 ∷ 0 ∷ 0 ∷ 0 ∷ 0 ∷ l) (append-nil part ∙ copied)
+
+  pub line_asked : length inputs ≡ 108 → all_binary inputs ≡ true → (length line ≡ 113) × (◌≡◌ {A = ℕ} 108 108) × (all_binary line ≡ true)
+  unfolding all_below
+  line_asked size binary = (ap length e ∙ ap (λ (n : ℕ). suc (suc (suc (suc (suc n))))) size, refl, ap all_binary e ∙ binary)
+
   pub outputs-coded : {first second : List ℕ} → first ≡ bytes (coded (take 1 acelp) (reverse (take 5 (bits line))) (drop 5 (bits line)))
       → second ≡ bytes (coded (drop 1 acelp) (reverse (take 5 (bits line))) (drop 5 (bits line)))
       → by_turns first second ≡ bytes (coded acelp (memory_low 0) (bits inputs))

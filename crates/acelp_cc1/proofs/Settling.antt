@@ -4,12 +4,9 @@ use mathlib.Core.Bool.{Bool, true, false, false≢true}
 use mathlib.Core.List.{List, reverse}
 use Prim.Native.Nat.{ℕ}
 use native.Mathlib.Omega.{arith}
-use lib.ListN.{length, take, length-map, length-reverse}
+use lib.ListN.{length, take}
 use lib.Seq.{length-take-le}
-use Rattle.bits.specs.Bits.{bits, byte, all_binary}
-use Rattle.bits.specs.declared.arguments.Arguments.{Arguments}
-use Rattle.bits.specs.declared.arguments.Arguments.TheVariants.{Passed, Refused}
-use Rattle.bits.specs.declared.Refusal.{Refusal}
+use Rattle.bits.specs.Bits.{bits, all_binary}
 use Rattle.bits.specs.declared.Refusal.TheVariants as refusal
 use Rattle.bits.proofs.Binary.{bits-bytes, bits-take, binary_bytes, binary_take}
 use Rattle.trellis.specs.Search.{FoundFirst}
@@ -17,7 +14,7 @@ use Rattle.trellis.specs.Words.{Terminated}
 use Rattle.trellis.specs.declared.Outcome.{Outcome}
 use Rattle.trellis.proofs.Decided.{decided_alone, decided_shared}
 use Rattle.puncturing.specs.Punctured.{weight}
-use Rattle.acelp_cc1.specs.Calls.{Exit, decode_arguments, frame_weight, refused_exit, accepted_exit, decode_of, decoding, decode_call}
+use Rattle.acelp_cc1.specs.Calls.{Exit, refused_exit, frame_weight, accepted_exit, decode_of}
 use Rattle.acelp_cc1.proofs.Meaning.{acelp-decided}
 
 pub asks_search : (frame : List ℕ) → length frame ≡ 260 → all_binary frame ≡ true
@@ -29,11 +26,8 @@ module _ (frame speech₀ : List ℕ) {word : List ℕ} {r : Outcome} (s : Found
   over : FoundFirst (Terminated 108) (frame_weight frame) word r
   over = subst (λ (l : List Bool). FoundFirst (Terminated 108) (weight l) word r) (bits-take 208 frame) s
 
-  pub asks_finish : (length word ≡ 108) × (all_binary word ≡ true)
-  asks_finish = (
-    ap length s.found.written ∙ length-map (reverse s.found.word) byte ∙ length-reverse s.found.word ∙ s.found.nearest.word.steps,
-    ap all_binary s.found.written ∙ binary_bytes (reverse s.found.word),
-  )
+  pub word_binary : all_binary word ≡ true
+  word_binary = ap all_binary s.found.written ∙ binary_bytes (reverse s.found.word)
 
   pub tied_end : r.tie ≡ true → refused_exit refusal.Ambiguous speech₀ ≡ decode_of frame speech₀
   tied_end t = sym (decided_shared (acelp-decided frame speech₀) (over.found.tied t))
@@ -42,11 +36,3 @@ module _ (frame speech₀ : List ℕ) {word : List ℕ} {r : Outcome} (s : Found
   alone_end t e =
       e ∙ ap₂ (accepted_exit frame) (ap bits over.found.written ∙ bits-bytes (reverse over.found.word)) over.found.metric
       ∙ sym (decided_alone (acelp-decided frame speech₀) over.found.nearest (λ a. false≢true (sym t ∙ over.found.alone a)))
-
--- ---- `decode`
-module _ (frame speech₀ : List ℕ) {l : Arguments} (told : l ≡ decode_arguments frame (length speech₀)) where
-  pub declined_end : (why : Refusal) → l ≡ Refused why → refused_exit why speech₀ ≡ decode_call frame speech₀
-  declined_end why e = ap (λ (x : Arguments). decoding x frame speech₀) (sym e ∙ told)
-
-  pub answered_end : l ≡ Passed → {x : Exit} → x ≡ decode_of frame speech₀ → x ≡ decode_call frame speech₀
-  answered_end passed e = e ∙ ap (λ (x : Arguments). decoding x frame speech₀) (sym passed ∙ told)

@@ -1,40 +1,26 @@
 -- What `encode` and `decode` do.
-use Rattle.std.specs.Prelude.{Bool, false, List, ◌++◌, reverse, ℕ, eqb, length, take, drop}
+use Rattle.std.specs.Prelude.{Bool, false, List, ◌++◌, reverse, ℕ, eqb, length, take, drop, Result, Ok, Err}
 use Rattle.bits.specs.Bits.{bits, bytes}
 use Rattle.bits.specs.Numbers.{packed}
-use Rattle.bits.specs.Refusals.{Answer, accepted, refused}
-use Rattle.bits.specs.Arguments.{bits_and_room}
+use Rattle.bits.specs.Arguments.{Arguments, bits_and_room}
 use Rattle.bits.specs.Calls.{WriteCall}
-use Rattle.bits.specs.declared.arguments.Arguments.{Arguments}
-use Rattle.bits.specs.declared.arguments.Arguments.TheVariants.{Passed, Refused}
 use Rattle.bits.specs.declared.Refusal.{Refusal}
 use Rattle.bits.specs.declared.Refusal.TheVariants as refusal
-use Rattle.bits.specs.declared.Wrote.{Wrote}
 use Rattle.trellis.specs.Nearest.{terminated_words, decided}
 use Rattle.puncturing.specs.Punctured.{weight}
 use Rattle.acelp_cc1.specs.Frames.{unordered, parity_of, class_one_of, check_of, frame_of}
-use Rattle.acelp_cc1.specs.declared.Decoded.{Decoded}
-use Rattle.acelp_cc1.specs.declared.Decoded.TheVariants as decoded
+use Rattle.acelp_cc1.specs.declared.DecodedFrame.{DecodedFrame}
 
 -- ---- encode: each length, then the symbols
 abbrev pub encode_arguments : List ℕ → ℕ → Arguments
 encode_arguments speech room = bits_and_room 148 speech 260 room
 
-abbrev pub Encoding : List ℕ → List ℕ → List ℕ → Wrote → Type 0
+abbrev pub Encoding : List ℕ → List ℕ → List ℕ → Arguments → Type 0
 Encoding speech frame₀ frame r = WriteCall (encode_arguments speech (length frame₀)) (bytes (frame_of (bits speech))) frame₀ frame r
 
 -- ---- decode
 abbrev pub decode_arguments : List ℕ → ℕ → Arguments
 decode_arguments frame room = bits_and_room 260 frame 148 room
-
--- what an accepted frame tells beside its bits; a bad checksum is a flag on an accepted frame
-pub record Told : Type 0 where
-  pub valid : Bool
-  pub corrected : ℕ
-
-abbrev pub decode_answer : Decoded → Answer Told
-decode_answer (decoded.Accepted valid corrected) = accepted (record { valid = valid; corrected = corrected })
-decode_answer (decoded.Refused why) = refused why
 
 -- whether the checksum in inputs is that of their class-one bits
 unfoldable pub inputs_valid : List Bool → Bool
@@ -46,20 +32,20 @@ frame_weight frame = weight (take 208 (bits frame))
 
 -- what a call leaves: its answer, and the speech bytes at exit
 pub record Exit : Type 0 where
-  pub answer : Answer Told
+  pub answer : Result DecodedFrame Refusal
   pub speech : List ℕ
 
-abbrev pub exit_of : Decoded → List ℕ → Exit
-exit_of r speech = record { answer = decode_answer r; speech = speech }
+abbrev pub exit_of : Result DecodedFrame Refusal → List ℕ → Exit
+exit_of answer speech = record { answer = answer; speech = speech }
 
 -- a refusal leaves the bytes as they were lent
 abbrev pub refused_exit : Refusal → List ℕ → Exit
-refused_exit why speech = record { answer = refused why; speech = speech }
+refused_exit why speech = exit_of (Err why) speech
 
--- the class-one bits of inputs that have so many disagreements, and class two as received, in the codec's order
+-- the class-one bits of inputs that have so many disagreements, and class two as received, in the codec's order; a bad checksum is a flag on an accepted frame
 unfoldable pub accepted_exit : List ℕ → List Bool → ℕ → Exit
 accepted_exit frame inputs corrected = record {
-  answer = accepted (record { valid = inputs_valid inputs; corrected = corrected });
+  answer = Ok (record { crc_valid = inputs_valid inputs; corrected = corrected });
   speech = bytes (unordered false (class_one_of inputs ++ drop 208 (bits frame)));
 }
 
@@ -70,8 +56,8 @@ decode_of frame speech =
     decided (terminated_words 108) (frame_weight frame) (λ (w : List Bool) (corrected : ℕ). accepted_exit frame (reverse w) corrected) (refused_exit refusal.Ambiguous speech)
 
 abbrev pub decoding : Arguments → List ℕ → List ℕ → Exit
-decoding (Refused why) frame speech = refused_exit why speech
-decoding Passed frame speech = decode_of frame speech
+decoding (Err why) frame speech = refused_exit why speech
+decoding (Ok passed) frame speech = decode_of frame speech
 
 -- the whole call, of a frame and what was lent for its speech bits
 abbrev pub decode_call : List ℕ → List ℕ → Exit

@@ -7,13 +7,13 @@ mod encoding;
 mod places;
 mod table;
 
-pub use bits::{Refusal, Wrote};
+pub use bits::Refusal;
 pub use decoding::decode;
 pub use encoding::encode;
 
-// What decoding a frame answers: whether the checksum of an accepted frame is right, with its corrected bits, or a refusal.
-#[derive(Clone, Copy)]
-pub enum Decoded {
-    Accepted { crc_valid: bool, corrected: u16 },
-    Refused(Refusal),
+// What an accepted frame tells beside its speech bits. A bad checksum is no refusal.
+#[derive(Clone, Copy, Debug, PartialEq, Eq)]
+pub struct DecodedFrame {
+    pub crc_valid: bool,
+    pub corrected: u16,
 }

@@ -1,42 +1,47 @@
 -- The turns of class two and of the protected bits in a frame: going by ranges is going by the standard's list of class-two places. Assumes nothing.
-use mathlib.Core.Path.{◌≡◌, refl, sym, ap, ap₂, ◌∙◌}
+use mathlib.Core.Path.{◌≡◌, refl, sym, ap, ap₂, subst, ◌∙◌}
 use mathlib.Core.Bool.{Bool, true, false, cond, not}
 use mathlib.Core.List.{List, [], ◌∷◌}
-use Prim.Native.Nat.{ℕ, ◌+◌, ◌*◌, ◌/◌, ◌≤◌}
+use Prim.Native.Nat.{ℕ, zero, suc}
 use native.Mathlib.Omega.{arith}
+use native.Mathlib.Nat.{not-suc-le-zero}
 use lib.Dec.{T, leb, leb→le}
-use lib.ListN.{length, get_or, take, drop}
+use lib.ListN.{length, get_or}
+use Rattle.std.specs.declared.ops.Range.{Range}
 use Rattle.bits.specs.Bits.{byte, bits, bytes, all_binary}
 use Rattle.bits.specs.Places.{listed}
 use Rattle.bits.proofs.Listed.{map-listed, listed_same}
-use Rattle.bits.proofs.Tested.{both, both_left, both_right, every, below}
+use Rattle.bits.proofs.Tested.{both, both_left, both_right}
 use Rattle.speech.specs.Classes.{is_class_two, passing, placed, taken_from, class_two_of, protected_of}
 use Rattle.speech.specs.Ranges.{Bounds, ranges_of, put_ranges}
 use Rattle.speech.proofs.InputBits.{byte_at, by_places}
 
--- ---- bounds, by one test
-unfoldable pub inside : List ℕ → ℕ → ℕ → Bool
-inside bounds n k = both (leb (get_or bounds (k * 2) 0) (get_or bounds (k * 2 + 1) 0)) (leb (get_or bounds (k * 2 + 1) 0) n)
+-- ---- ranges in a frame, by one test
+unfoldable pub inside : List (Range ℕ) → Bool
+inside [] = true
+inside (r ∷ ranges) = both (both (leb r.start r.end) (leb r.end 260)) (inside ranges)
 
-abbrev pub Inside : List ℕ → Type 0
-Inside bounds = (length bounds / 2 * 2 ≡ length bounds) × T (every (inside bounds 260) (length bounds / 2))
-
-pub in_frame : (bounds : List ℕ) {n : ℕ} → Inside bounds → n ≡ 260 → Bounds bounds n
+within : (ranges : List (Range ℕ)) → T (inside ranges) → Bounds ranges 260
 unfolding inside
-in_frame bounds {n} t e =
-    record {
-      even = t.0;
-      within = λ k h.
-          let p : T (inside bounds 260 k) = below (inside bounds 260) (length bounds / 2) t.1 k h in
-          (leb→le _ _ (both_left (leb (get_or bounds (k * 2) 0) (get_or bounds (k * 2 + 1) 0)) _ p), let q : get_or bounds (k * 2 + 1) 0 ≤ 260 = leb→le _ _ (both_right (leb (get_or bounds (k * 2) 0) (get_or bounds (k * 2 + 1) 0)) _ p) in omega arith);
-    }
+within [] t k d h = absurd (not-suc-le-zero h)
+within (r ∷ ranges) t zero d h =
+    let here : T (both (leb r.start r.end) (leb r.end 260)) = both_left (both (leb r.start r.end) (leb r.end 260)) (inside ranges) t in
+    (leb→le r.start r.end (both_left (leb r.start r.end) (leb r.end 260) here), leb→le r.end 260 (both_right (leb r.start r.end) (leb r.end 260) here))
+within (r ∷ ranges) t (suc k) d h = within ranges (both_right (both (leb r.start r.end) (leb r.end 260)) (inside ranges) t) k d (omega arith)
 
--- ---- the bounds of the code: the ranges of class two, and those between them
-abbrev pub turns : List ℕ
-turns = 0 ∷ 1 ∷ 26 ∷ 27 ∷ 52 ∷ 53 ∷ 78 ∷ 79 ∷ 93 ∷ 131 ∷ 156 ∷ 157 ∷ 182 ∷ 183 ∷ 208 ∷ 209 ∷ 223 ∷ 260 ∷ []
+pub in_frame : (ranges : List (Range ℕ)) {n : ℕ} → T (inside ranges) → n ≡ 260 → Bounds ranges n
+in_frame ranges t e = subst (Bounds ranges) (sym e) (within ranges t)
 
-abbrev pub between : List ℕ
-between = take 16 (drop 1 turns)
+-- ---- the ranges of the code: those of class two, and those between them
+abbrev pub range : ℕ → ℕ → Range ℕ
+range a b = record { start = a; end = b }
+
+abbrev pub turns : List (Range ℕ)
+turns =
+    range 0 1 ∷ range 26 27 ∷ range 52 53 ∷ range 78 79 ∷ range 93 131 ∷ range 156 157 ∷ range 182 183 ∷ range 208 209 ∷ range 223 260 ∷ []
+
+abbrev pub between : List (Range ℕ)
+between = range 1 26 ∷ range 27 52 ∷ range 53 78 ∷ range 79 93 ∷ range 131 156 ∷ range 157 182 ∷ range 183 208 ∷ range 209 223 ∷ []
 
 -- ---- what the ranges hold, by computation on a frame that any function lists
 module _ {A : Type 0} (f : ℕ → A) where

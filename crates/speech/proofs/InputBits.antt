@@ -1,25 +1,19 @@
 -- The inputs of a frame: bits gathered at places, checksum bits put at theirs, and the class-one bits among zeros. Assumes nothing.
-use mathlib.Core.Path.{◌≡◌, refl, sym, ap, ap₂, ◌∙◌}
+use mathlib.Core.Path.{◌≡◌, refl, sym, ap, ap₂, subst, ◌∙◌}
 use mathlib.Core.Bool.{Bool, true, false, cond}
-use mathlib.Core.List.{List, [], ◌∷◌, ◌++◌, append-nil}
-use Prim.Native.Nat.{ℕ, zero, suc, ◌-◌, ◌<◌, ◌≤◌}
-use native.Mathlib.Omega.{arith}
-use native.Mathlib.Nat.{not-suc-le-zero}
+use mathlib.Core.List.{List, [], ◌∷◌, ◌++◌}
+use Prim.Native.Nat.{ℕ, zero, suc, ◌+◌, ◌<◌, ◌≤◌}
 use lib.Dec.{T, ltb}
-use lib.ListN.{length, get_or, take, drop, replicate, length-map, drop_of_length-le}
-use lib.Seq.{paste, take_all}
-use borrow.Author.Tests.{ltb-true}
+use lib.ListN.{length, get_or, set, replicate, length-map}
 use Rattle.bits.specs.Bits.{byte, bit, bits, bytes, all_binary}
 use Rattle.bits.specs.Numbers.{unpacked}
 use Rattle.bits.specs.Places.{listed, place_in}
 use Rattle.bits.proofs.Binary.{byte-bit, binary_head, binary_tail, binary_bytes, bits-bytes, bytes_bits}
-use Rattle.bits.proofs.Below.{cond_true}
 use Rattle.bits.proofs.Filled.{Filling}
 use Rattle.bits.proofs.Listed.{length-listed, get_d_listed, is_listed, map-listed}
-use Rattle.bits.proofs.Packed.{unpacked-length}
 use Rattle.bits.proofs.Permuted.{stands}
 use Rattle.bits.proofs.Tested.{every}
-use Rattle.bits.proofs.Scattered.{Scattering, filled_listed, scattering_over}
+use Rattle.bits.proofs.Scattered.{Scattering, filled_listed, scattering_more, scattering_over}
 use Rattle.checksums.specs.Checksums.{checksum7_of}
 use Rattle.speech.specs.Inputs.{bits_at, parity_places, significant_places, parity_of, inputs_with, inputs_of}
 
@@ -30,7 +24,7 @@ byte_at (x ∷ l) e zero = byte-bit x (binary_head x l e)
 byte_at (x ∷ l) e (suc k) = byte_at l (binary_tail x l e) k
 
 -- lists of values that are the same below n
-pub listed_below : {A : Type 0} (d : A) (n : ℕ) (f g : ℕ → A) → ((i : ℕ) → i < n → f i ≡ g i) → listed n f ≡ listed n g
+listed_below : {A : Type 0} (d : A) (n : ℕ) (f g : ℕ → A) → ((i : ℕ) → i < n → f i ≡ g i) → listed n f ≡ listed n g
 listed_below d n f g p = is_listed n g d (listed n f) (length-listed n f) (λ i h. get_d_listed n f d i h ∙ p i h)
 
 -- a list of length n, by its places
@@ -55,6 +49,11 @@ parity_once : T (every (stands parity_places 89) 7)
 unfolding stands place_in
 parity_once = tt
 
+pub parity_more : (parity : List ℕ) {inputs₀ inputs : List ℕ} {k n place bit : ℕ} → Scattering parity_places (λ i. get_or parity i 0) 0 89 inputs₀ inputs k → k < 7
+    → place ≡ get_or parity_places k 0 → bit ≡ get_or parity k 0 → n ≡ k + 1 → Scattering parity_places (λ i. get_or parity i 0) 0 89 inputs₀ (set inputs place bit) n
+parity_more parity {inputs₀} {inputs} {place = place} {bit = bit} s h ep eb en =
+    subst (Scattering parity_places (λ i. get_or parity i 0) 0 89 inputs₀ (set inputs place bit)) (sym en) (scattering_more parity_places 7 89 refl parity_once s h ep eb)
+
 with_length : (one parity : List Bool) → length (inputs_with one parity) ≡ 89
 unfolding inputs_with
 with_length one parity = length-listed 89 _
@@ -71,33 +70,29 @@ parity_put parity {inputs₀} binary s h one e =
     go i true y z e = sym (byte_at parity binary (place_in parity_places i))
     go i false y z e = e
 
--- ---- the class-one bits, copied out of inputs and into zeros
-pub copied_out : (inputs one₀ : List ℕ) {one : List ℕ} → length one₀ ≡ 77 → one ≡ paste one₀ 0 (drop 4 inputs) 77 → one ≡ take 77 (drop 4 inputs)
-copied_out inputs one₀ room e =
-    e ∙ ap (λ (l : List ℕ). take 77 (drop 4 inputs) ++ l) (drop_of_length-le one₀ {i = 77} (omega arith)) ∙ append-nil (take 77 (drop 4 inputs))
-
-with_none : (g : ℕ → Bool) → bytes (inputs_with (listed 77 g) []) ≡ replicate 4 0 ++ bytes (listed 77 g) ++ replicate 8 0
+-- ---- the class-one bits, copied into zeros
+with_none : (g : ℕ → Bool) → bytes (inputs_with (listed 77 g) []) ≡ replicate 4 0 ++ (bytes (listed 77 g) ++ replicate 8 0)
 unfolding inputs_with listed place_in
 with_none g = refl
 
-module _ (one : List ℕ) {inputs₀ inputs₁ : List ℕ} (size : length one ≡ 77) (binary : all_binary one ≡ true) (zeros : inputs₀ ≡ replicate 89 0) (copied : inputs₁ ≡ paste inputs₀ 4 one 77) where
-  pub one_filled : inputs₁ ≡ bytes (inputs_with (bits one) [])
+module _ (one : List ℕ) {part : List ℕ} (size : length one ≡ 77) (binary : all_binary one ≡ true) (copied : part ≡ one) where
+  -- the inputs before their checksum
+  abbrev pub unchecked : List ℕ
+  unchecked = replicate 4 0 ++ (part ++ replicate 8 0)
+
+  one_filled : unchecked ≡ bytes (inputs_with (bits one) [])
   one_filled =
       let l : bits one ≡ listed 77 (λ i. get_or (bits one) i false) = by_places false 77 (bits one) (length-map one bit ∙ size) in
-      copied
-      ∙ ap₂ (λ (z u : List ℕ). take 4 z ++ u ++ drop 81 z) zeros (take_all 77 one (omega arith) ∙ sym (bytes_bits one binary))
-      ∙ ap (λ (u : List Bool). replicate 4 0 ++ bytes u ++ replicate 8 0) l
+      ap (λ (p : List ℕ). replicate 4 0 ++ (p ++ replicate 8 0)) (copied ∙ sym (bytes_bits one binary))
+      ∙ ap (λ (u : List Bool). replicate 4 0 ++ (bytes u ++ replicate 8 0)) l
       ∙ sym (with_none (λ i. get_or (bits one) i false)) ∙ ap (λ (u : List Bool). bytes (inputs_with u [])) (sym l)
 
-  pub one_length : length inputs₁ ≡ 89
-  one_length = ap length one_filled ∙ length-map (inputs_with (bits one) []) byte ∙ with_length (bits one) []
-
-  pub one_binary : all_binary inputs₁ ≡ true
+  pub one_binary : all_binary unchecked ≡ true
   one_binary = ap all_binary one_filled ∙ binary_bytes (inputs_with (bits one) [])
 
-  pub inputs_filled : {parity inputs : List ℕ} {remainder : ℕ} → remainder ≡ checksum7_of (bits_at significant_places (bits inputs₁))
+  pub inputs_filled : {parity inputs : List ℕ} {remainder : ℕ} → remainder ≡ checksum7_of (bits_at significant_places (bits unchecked))
       → parity ≡ bytes (unpacked 7 remainder)
-      → ((u : List Bool) → inputs₁ ≡ bytes (inputs_with u []) → inputs ≡ bytes (inputs_with u (bits parity))) → inputs ≡ bytes (inputs_of (bits one))
+      → ((u : List Bool) → unchecked ≡ bytes (inputs_with u []) → inputs ≡ bytes (inputs_with u (bits parity))) → inputs ≡ bytes (inputs_of (bits one))
   unfolding inputs_of parity_of
   inputs_filled {parity} {inputs} {remainder} er ep put =
       let p : bits parity ≡ unpacked 7 (checksum7_of (bits_at significant_places (inputs_with (bits one) []))) =
@@ -110,5 +105,5 @@ pub inputs_length : (one : List Bool) → length (inputs_of one) ≡ 89
 unfolding inputs_of
 inputs_length one = with_length one _
 
-pub parity_bytes : (remainder : ℕ) {parity : List ℕ} → parity ≡ bytes (unpacked 7 remainder) → (length parity ≡ 7) × (all_binary parity ≡ true)
-parity_bytes remainder e = (ap length e ∙ length-map (unpacked 7 remainder) byte ∙ unpacked-length 7 remainder, ap all_binary e ∙ binary_bytes (unpacked 7 remainder))
+pub parity_binary : (remainder : ℕ) {parity : List ℕ} → parity ≡ bytes (unpacked 7 remainder) → all_binary parity ≡ true
+parity_binary remainder e = ap all_binary e ∙ binary_bytes (unpacked 7 remainder)

@@ -3,6 +3,5 @@ pub mod Copying
 pub mod InputBits
 pub mod ClassPlaces
 pub mod Statuses
-pub mod Answering
 pub mod Meaning
 pub mod Settling

@@ -12,9 +12,7 @@ use Rattle.bits.proofs.Packed.{packed_below, packed-unpacked_below}
 use Rattle.checksums.specs.Checksums.{check_bits, checksum7_of, speech}
 use Rattle.checksums.proofs.Division.{check_bits-length}
 use Rattle.speech.specs.Inputs.{bits_at, parity_places, significant_places, parity_of}
-use Rattle.bits.specs.Refusals.{Answer, accepted}
-use Rattle.speech.specs.Calls.{Told, status_of}
-use Rattle.speech.specs.declared.CrcStatus.{CrcStatus}
+use Rattle.speech.specs.Calls.{status_of}
 use Rattle.speech.specs.declared.CrcStatus.TheVariants.{Valid, Failed}
 
 -- a checksum has seven bits
@@ -22,7 +20,7 @@ pub checksum7_below : (u : List Bool) → checksum7_of u < 2 ^ 7
 unfolding checksum7_of
 checksum7_below u = subst (λ (n : ℕ). packed (check_bits speech u) < 2 ^ n) (check_bits-length speech u) (packed_below (check_bits speech u))
 
-pub own_parity : (u : List Bool) → packed (parity_of u) ≡ checksum7_of (bits_at significant_places u)
+own_parity : (u : List Bool) → packed (parity_of u) ≡ checksum7_of (bits_at significant_places u)
 unfolding parity_of
 own_parity u = packed-unpacked_below 7 (checksum7_of (bits_at significant_places u)) (checksum7_below (bits_at significant_places u))
 
@@ -42,8 +40,3 @@ module _ (inputs parity : List ℕ) {received remainder : ℕ} (held : parity �
 
   pub valid : received ≡ remainder → status_of (bits inputs) ≡ Valid
   valid e = tested _ (eq-eqb received remainder e)
-
--- an accepted frame with a status
-pub told_as : (u : List Bool) (corrected : ℕ) {s : CrcStatus} → status_of u ≡ s
-    → ◌≡◌ {A = Answer Told} (accepted (record { crc = s; corrected = corrected })) (accepted (record { crc = status_of u; corrected = corrected }))
-told_as u corrected e = ap (λ (t : CrcStatus). accepted (record { crc = t; corrected = corrected })) (sym e)

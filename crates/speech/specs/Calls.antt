@@ -1,15 +1,11 @@
 -- What `encode` and `decode_candidate` do.
-use Rattle.std.specs.Prelude.{Bool, cond, List, reverse, ℕ, eqb, length}
+use Rattle.std.specs.Prelude.{Bool, cond, List, reverse, ℕ, eqb, length, Result, Ok, Err}
 use Rattle.bits.specs.Bits.{bits, bytes}
 use Rattle.bits.specs.Numbers.{packed}
-use Rattle.bits.specs.Refusals.{Answer, accepted, refused}
-use Rattle.bits.specs.Arguments.{first_refusal, exact_of, binary_of, two_and_room}
+use Rattle.bits.specs.Arguments.{Arguments, first_refusal, exact_of, binary_of, two_and_room}
 use Rattle.bits.specs.Calls.{WriteCall}
-use Rattle.bits.specs.declared.arguments.Arguments.{Arguments}
-use Rattle.bits.specs.declared.arguments.Arguments.TheVariants.{Passed, Refused}
 use Rattle.bits.specs.declared.Refusal.{Refusal}
 use Rattle.bits.specs.declared.Refusal.TheVariants as refusal
-use Rattle.bits.specs.declared.Wrote.{Wrote}
 use Rattle.trellis.specs.Nearest.{terminated_words, decided}
 use Rattle.viterbi.specs.Hard.{weight}
 use Rattle.speech.specs.Inputs.{bits_at, parity_places, parity_of, class_one_of}
@@ -17,15 +13,14 @@ use Rattle.speech.specs.Classes.{class_two_of, protected_of}
 use Rattle.speech.specs.Frames.{frame_of}
 use Rattle.speech.specs.declared.CrcStatus.{CrcStatus}
 use Rattle.speech.specs.declared.CrcStatus.TheVariants.{Valid, Failed}
-use Rattle.speech.specs.declared.Decoded.{Decoded}
-use Rattle.speech.specs.declared.Decoded.TheVariants as decoded
+use Rattle.speech.specs.declared.SpeechCandidate.{SpeechCandidate}
 
 -- ---- encode: each length, then the symbols
 abbrev pub encode_arguments : List ℕ → List ℕ → ℕ → Arguments
 encode_arguments class_one class_two room =
     two_and_room 77 class_one 82 class_two 260 room
 
-abbrev pub Encoding : List ℕ → List ℕ → List ℕ → List ℕ → Wrote → Type 0
+abbrev pub Encoding : List ℕ → List ℕ → List ℕ → List ℕ → Arguments → Type 0
 Encoding class_one class_two frame₀ frame r =
     WriteCall (encode_arguments class_one class_two (length frame₀)) (bytes (frame_of (bits class_one) (bits class_two))) frame₀ frame r
 
@@ -33,15 +28,6 @@ Encoding class_one class_two frame₀ frame r =
 abbrev pub decode_arguments : List ℕ → ℕ → ℕ → Arguments
 decode_arguments frame room_one room_two =
     first_refusal (exact_of 260 (length frame)) (first_refusal (exact_of 77 room_one) (first_refusal (exact_of 82 room_two) (binary_of frame)))
-
--- what an accepted frame tells beside its bits
-pub record Told : Type 0 where
-  pub crc : CrcStatus
-  pub corrected : ℕ
-
-abbrev pub decode_answer : Decoded → Answer Told
-decode_answer (decoded.Accepted crc corrected) = accepted (record { crc = crc; corrected = corrected })
-decode_answer (decoded.Refused why) = refused why
 
 -- whether the checksum in inputs is theirs; a failed one is a status of an accepted frame
 unfoldable pub status_of : List Bool → CrcStatus
@@ -53,21 +39,21 @@ frame_weight frame = weight (protected_of (bits frame))
 
 -- what a call leaves: its answer, and the bytes of both classes at exit
 pub record Exit : Type 0 where
-  pub answer : Answer Told
+  pub answer : Result SpeechCandidate Refusal
   pub class_one : List ℕ
   pub class_two : List ℕ
 
-abbrev pub exit_of : Decoded → List ℕ → List ℕ → Exit
-exit_of r class_one class_two = record { answer = decode_answer r; class_one = class_one; class_two = class_two }
+abbrev pub exit_of : Result SpeechCandidate Refusal → List ℕ → List ℕ → Exit
+exit_of answer class_one class_two = record { answer = answer; class_one = class_one; class_two = class_two }
 
 -- a refusal leaves the bytes as they were lent
 abbrev pub refused_exit : Refusal → List ℕ → List ℕ → Exit
-refused_exit why class_one class_two = record { answer = refused why; class_one = class_one; class_two = class_two }
+refused_exit why class_one class_two = exit_of (Err why) class_one class_two
 
 -- the class-one bits of inputs that have so many disagreements, and class two as received
 unfoldable pub accepted_exit : List ℕ → List Bool → ℕ → Exit
 accepted_exit frame inputs corrected = record {
-  answer = accepted (record { crc = status_of inputs; corrected = corrected });
+  answer = Ok (record { crc = status_of inputs; corrected = corrected });
   class_one = bytes (class_one_of inputs);
   class_two = class_two_of frame;
 }
@@ -80,8 +66,8 @@ decode_of frame class_one class_two =
     (refused_exit refusal.Ambiguous class_one class_two)
 
 abbrev pub decoding : Arguments → List ℕ → List ℕ → List ℕ → Exit
-decoding (Refused why) frame class_one class_two = refused_exit why class_one class_two
-decoding Passed frame class_one class_two = decode_of frame class_one class_two
+decoding (Err why) frame class_one class_two = refused_exit why class_one class_two
+decoding (Ok passed) frame class_one class_two = decode_of frame class_one class_two
 
 -- the whole call, of a frame and what was lent for both classes
 abbrev pub decode_call : List ℕ → List ℕ → List ℕ → Exit

@@ -1,26 +1,24 @@
--- Lists of places, and ranges of places between bounds: from the first bound up to the second, from the third up to the fourth, and so on.
-use Rattle.std.specs.Prelude.{◌≡◌, Bool, true, false, cond, List, [], ◌∷◌, ◌++◌, ℕ, ◌+◌, ◌-◌, ◌*◌, ◌/◌, ◌<◌, ◌≤◌, ltb, length, get_or, take, drop}
+-- Ranges of places of a list, each from its start up to its end.
+use Rattle.std.specs.Prelude.{List, [], ◌∷◌, ◌++◌, ℕ, ◌+◌, ◌-◌, ◌≤◌, take, drop}
+use Rattle.std.specs.List.{All}
+use Rattle.std.specs.declared.ops.Range.{Range}
 use Rattle.std.proofs.Math.Seq.{paste}
 
 -- each range lies within n places
-pub record Bounds (bounds : List ℕ) (n : ℕ) : Type 0 where
-  pub even : length bounds / 2 * 2 ≡ length bounds
-  pub within : (k : ℕ) → k < length bounds / 2 → (get_or bounds (k * 2) 0 ≤ get_or bounds (k * 2 + 1) 0) × (get_or bounds (k * 2 + 1) 0 ≤ n)
+abbrev pub Bounds : List (Range ℕ) → ℕ → Type 0
+Bounds ranges n = All (λ (r : Range ℕ). (r.start ≤ r.end) × (r.end ≤ n)) ranges
 
 -- how many places the ranges have
-unfoldable pub total_of : List ℕ → ℕ
+unfoldable pub total_of : List (Range ℕ) → ℕ
 total_of [] = 0
-total_of (a ∷ []) = 0
-total_of (a ∷ b ∷ bounds) = (b - a) + total_of bounds
+total_of (r ∷ ranges) = (r.end - r.start) + total_of ranges
 
 -- the ranges of a list, one after the other
-unfoldable pub ranges_of : {A : Type 0} → List ℕ → List A → List A
+unfoldable pub ranges_of : {A : Type 0} → List (Range ℕ) → List A → List A
 ranges_of [] l = []
-ranges_of (a ∷ []) l = []
-ranges_of (a ∷ b ∷ bounds) l = take (b - a) (drop a l) ++ ranges_of bounds l
+ranges_of (r ∷ ranges) l = take (r.end - r.start) (drop r.start l) ++ ranges_of ranges l
 
 -- a list with bits, in order, in its ranges
-unfoldable pub put_ranges : {A : Type 0} → List ℕ → List A → List A → List A
+unfoldable pub put_ranges : {A : Type 0} → List (Range ℕ) → List A → List A → List A
 put_ranges [] bits l = l
-put_ranges (a ∷ []) bits l = l
-put_ranges (a ∷ b ∷ bounds) bits l = put_ranges bounds (drop (b - a) bits) (paste l a bits (b - a))
+put_ranges (r ∷ ranges) bits l = put_ranges ranges (drop (r.end - r.start) bits) (paste l r.start bits (r.end - r.start))

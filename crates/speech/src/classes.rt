@@ -5,10 +5,30 @@ ghost use Rattle.bits.specs.Bits.{all_binary, bits, bytes};
 ghost use Rattle.speech.specs.Classes.{class_two_of, placed, protected_of};
 
 use crate::ranges::{put_ranges, take_ranges};
+use std::ops::Range;
 
-// Class two from the first of these places on, the protected bits from the second on, and so on.
-const CLASS_BOUNDS: [usize; 18] = [
-    0, 1, 26, 27, 52, 53, 78, 79, 93, 131, 156, 157, 182, 183, 208, 209, 223, 260,
+const CLASS_TWO: [Range<usize>; 9] = [
+    0..1,
+    26..27,
+    52..53,
+    78..79,
+    93..131,
+    156..157,
+    182..183,
+    208..209,
+    223..260,
+];
+
+// What lies between them.
+const PROTECTED: [Range<usize>; 8] = [
+    1..26,
+    27..52,
+    53..78,
+    79..93,
+    131..156,
+    157..182,
+    183..208,
+    209..223,
 ];
 
 // Writes the class-two bits of a frame.
@@ -16,26 +36,23 @@ pub fn take_class_two(frame: &[u8], class_two: &mut [u8])
     requires { (length frame.now ≡ 260) × (length class_two.old ≡ 82) }
     ensures { class_two.new ≡ class_two_of frame.now }
 {
-    let bounds = CLASS_BOUNDS;
-    take_ranges(&bounds, frame, class_two);
+    take_ranges(&CLASS_TWO, frame, class_two);
 }
 
 // Writes the protected bits of a frame.
-pub fn take_protected(frame: &[u8], protected: &mut [u8])
-    requires { (length frame.now ≡ 260) × (length protected.old ≡ 178) }
+pub fn take_protected(frame: &[u8], protected: &mut [u8; 178])
+    requires { length frame.now ≡ 260 }
     ensures { protected.new ≡ protected_of frame.now }
 {
-    let bounds = CLASS_BOUNDS;
-    take_ranges(&bounds[1..17], frame, protected);
+    take_ranges(&PROTECTED, frame, protected);
 }
 
 // Writes a frame of protected and class-two bits.
-pub fn merge(protected: &[u8], class_two: &[u8], frame: &mut [u8])
-    requires protected_len { (length protected.now ≡ 178) × (length class_two.now ≡ 82) × (length frame.old ≡ 260) }
-    requires protected_value { (all_binary protected.now ≡ true) × (all_binary class_two.now ≡ true) }
+pub fn merge(protected: &[u8; 178], class_two: &[u8], frame: &mut [u8])
+    requires lengths { (length class_two.now ≡ 82) × (length frame.old ≡ 260) }
+    requires binary { (all_binary protected.now ≡ true) × (all_binary class_two.now ≡ true) }
     ensures { frame.new ≡ bytes (placed (bits protected.now) (bits class_two.now)) }
 {
-    let bounds = CLASS_BOUNDS;
-    put_ranges(&bounds, class_two, frame);
-    put_ranges(&bounds[1..17], protected, frame);
+    put_ranges(&CLASS_TWO, class_two, frame);
+    put_ranges(&PROTECTED, protected, frame);
 }

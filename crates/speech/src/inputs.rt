@@ -1,68 +1,72 @@
 // The 89 inputs of a frame (IS-54-B 2.1.3.3.3): the class-one bits, their checksum, and five zeros.
 // Ported from 136-bts, speech.rs, and changed (see NOTICE).
-ghost use Rattle.std.specs.Prelude.{Bool, true, [], List, ◌≡◌, length, replicate};
+ghost use Rattle.std.specs.Prelude.{Bool, true, List, [], ◌≡◌, length};
 ghost use Rattle.bits.specs.Bits.{all_below, all_binary, bits, bytes};
 ghost use Rattle.checksums.specs.Checksums.{checksum7_of};
-ghost use Rattle.speech.specs.Inputs.{bits_at, inputs_of, inputs_with, parity_places, significant_places};
+ghost use Rattle.speech.specs.Calls.{status_of};
+ghost use Rattle.speech.specs.Inputs.{bits_at, inputs_of, inputs_with, significant_places};
 
-use crate::ranges::copy_range;
-use bits::unpack;
+use crate::CrcStatus;
+use bits::{pack, unpack};
 use checksums::checksum7_of_bits;
 
 // 2.1.3.3.3.3, the highest coefficient first.
-const SIGNIFICANT: [usize; 12] = [80, 4, 79, 5, 78, 6, 77, 7, 76, 8, 75, 9];
+const SIGNIFICANT: [u8; 12] = [80, 4, 79, 5, 78, 6, 77, 7, 76, 8, 75, 9];
 
-const PARITY: [usize; 7] = [0, 83, 1, 82, 2, 81, 3];
+const PARITY: [u8; 7] = [0, 83, 1, 82, 2, 81, 3];
 
-// Writes the bits at some places.
-fn gather(places: &[usize], inputs: &[u8], out: &mut [u8])
-    requires { (length out.old ≡ length places.now) × (all_binary inputs.now ≡ true) × (all_below (length inputs.now) places.now ≡ true) }
-    ensures { out.new ≡ bytes (bits_at places.now (bits inputs.now)) }
+// The bits at some places. `acelp_cc1` has a loop like it: a crate below both for these lines would be no plainer.
+fn gather<const N: usize>(places: &[u8; N], inputs: &[u8; 89]) -> [u8; N]
+    requires { (all_binary inputs.now ≡ true) × (all_below 89 places.now ≡ true) }
+    ensures { result ≡ bytes (bits_at places.now (bits inputs.now)) }
 {
-    for i in 0..places.len() {
-        out[i] = inputs[places[i]];
+    let mut bits = [0u8; N];
+    for (i, place) in places.iter().enumerate() {
+        bits[i] = inputs[usize::from(*place)];
     }
+    bits
 }
 
 // The checksum of inputs.
-pub fn checksum(inputs: &[u8]) -> u16
-    requires { (length inputs.now ≡ 89) × (all_binary inputs.now ≡ true) }
+fn checksum(inputs: &[u8; 89]) -> u16
+    requires { all_binary inputs.now ≡ true }
     ensures { result ≡ checksum7_of (bits_at significant_places (bits inputs.now)) }
 {
-    let places = SIGNIFICANT;
-    let mut significant = [0u8; 12];
-    gather(&places, inputs, &mut significant);
-    checksum7_of_bits(&significant)
+    checksum7_of_bits(&gather(&SIGNIFICANT, inputs))
 }
 
-// Writes the checksum bits that inputs hold.
-pub fn take_parity(inputs: &[u8], parity: &mut [u8])
-    requires { (length inputs.now ≡ 89) × (all_binary inputs.now ≡ true) × (length parity.old ≡ 7) }
-    ensures { parity.new ≡ bytes (bits_at parity_places (bits inputs.now)) }
+// Whether the checksum that inputs hold is theirs.
+pub fn crc_status(inputs: &[u8; 89]) -> CrcStatus
+    requires { all_binary inputs.now ≡ true }
+    ensures { result ≡ status_of (bits inputs.now) }
 {
-    let places = PARITY;
-    gather(&places, inputs, parity);
-}
-
-// Writes checksum bits into inputs without any.
-fn put_parity(parity: &[u8], inputs: &mut [u8])
-    requires { (length parity.now ≡ 7) × (all_binary parity.now ≡ true) × (length inputs.old ≡ 89) }
-    ensures { (one : List Bool) → inputs.old ≡ bytes (inputs_with one []) → inputs.new ≡ bytes (inputs_with one (bits parity.now)) }
-{
-    let places = PARITY;
-    for i in 0..7usize {
-        inputs[places[i]] = parity[i];
+    let received = pack(&gather(&PARITY, inputs));
+    if received == u64::from(checksum(inputs)) {
+        CrcStatus::Valid
+    } else {
+        CrcStatus::Failed
     }
 }
 
-// Writes the inputs of class-one bits into zeros.
-pub fn fill_inputs(class_one: &[u8], inputs: &mut [u8])
-    requires { (length class_one.now ≡ 77) × (all_binary class_one.now ≡ true) × (inputs.old ≡ replicate 89 0) }
-    ensures { inputs.new ≡ bytes (inputs_of (bits class_one.now)) }
+// Writes checksum bits into inputs without any.
+fn put_parity(parity: &[u8; 7], inputs: &mut [u8; 89])
+    requires { all_binary parity.now ≡ true }
+    ensures { (one : List Bool) → inputs.old ≡ bytes (inputs_with one []) → inputs.new ≡ bytes (inputs_with one (bits parity.now)) }
 {
-    copy_range(class_one, 0, inputs, 4, 77);
-    let remainder = checksum(inputs);
+    for (place, bit) in PARITY.iter().zip(parity) {
+        inputs[usize::from(*place)] = *bit;
+    }
+}
+
+// The inputs of class-one bits.
+pub fn inputs_of(class_one: &[u8]) -> [u8; 89]
+    requires { (length class_one.now ≡ 77) × (all_binary class_one.now ≡ true) }
+    ensures { result ≡ bytes (inputs_of (bits class_one.now)) }
+{
+    let mut inputs = [0u8; 89];
+    inputs[4..81].copy_from_slice(class_one);
     let mut parity = [0u8; 7];
-    unpack(remainder as u64, &mut parity);
-    put_parity(&parity, inputs);
+    unpack(u64::from(checksum(&inputs)), &mut parity);
+    put_parity(&parity, &mut inputs);
+    inputs
 }

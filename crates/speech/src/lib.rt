@@ -8,20 +8,20 @@ mod encoding;
 mod inputs;
 mod ranges;
 
-pub use bits::{Refusal, Wrote};
+pub use bits::Refusal;
 pub use decoding::decode_candidate;
 pub use encoding::encode;
 
 // Whether a frame's checksum is right. A failed one is no refusal.
-#[derive(Clone, Copy)]
+#[derive(Clone, Copy, Debug, PartialEq, Eq)]
 pub enum CrcStatus {
     Valid,
     Failed,
 }
 
-// What decoding a frame answers: the status and the corrected bits of an accepted frame, or a refusal.
-#[derive(Clone, Copy)]
-pub enum Decoded {
-    Accepted { crc: CrcStatus, corrected: u16 },
-    Refused(Refusal),
+// What an accepted frame tells beside its speech bits.
+#[derive(Clone, Copy, Debug, PartialEq, Eq)]
+pub struct SpeechCandidate {
+    pub crc: CrcStatus,
+    pub corrected: u16,
 }

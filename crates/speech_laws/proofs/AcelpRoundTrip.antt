@@ -6,11 +6,10 @@ use Prim.Native.Nat.{ℕ}
 use native.Mathlib.Omega.{arith}
 use lib.ListN.{length, get_or, take, drop, length-map, length-append, length-drop, length-reverse, take-append-drop}
 use lib.Seq.{take_at, drop_at}
+use Rattle.std.specs.Prelude.{Ok}
 use Rattle.bits.specs.Bits.{bit, bits, bytes, byte, all_binary, disagreements}
 use Rattle.bits.specs.Places.{place_in}
-use Rattle.bits.specs.Refusals.{accepted}
-use Rattle.bits.specs.declared.arguments.Arguments.{Arguments}
-use Rattle.bits.specs.declared.Wrote.{Wrote}
+use Rattle.bits.specs.Arguments.{Arguments}
 use Rattle.bits.proofs.Binary.{bits-bytes, bytes_bits, binary_bytes}
 use Rattle.bits.proofs.Listed.{length-listed, taken_back}
 use Rattle.bits.proofs.Refusing.{room_passed}
@@ -85,7 +84,7 @@ module _ (order : List Bool) (size : length order ≡ 148) where
 -- ---- the calls
 -- a frame's own bits
 pub own_bits : (speech : List Bool) (speech₀ : List ℕ) → length speech ≡ 148 → length speech₀ ≡ 148
-    → decode_call (bytes (frame_of speech)) speech₀ ≡ record { answer = accepted (record { valid = true; corrected = 0 }); speech = bytes speech }
+    → decode_call (bytes (frame_of speech)) speech₀ ≡ record { answer = Ok (record { crc_valid = true; corrected = 0 }); speech = bytes speech }
 unfolding frame_of accepted_exit
 own_bits speech speech₀ size room =
     let order : List Bool = ordered false speech in
@@ -102,11 +101,11 @@ own_bits speech speech₀ size room =
     ∙ decided_alone (acelp-decided frame speech₀) (record { word = own order; least = λ u h. omega (arith, weighs) })
     (λ a. clear order many (subst (λ (u : List Bool). Ambiguous (Terminated 108) (weight u)) received a))
     ∙ ap₂ (accepted_exit frame) (reverse-reverse (inputs_of order)) weighs
-    ∙ (λ i. record { answer = accepted (record { valid = valid_own order many i; corrected = 0 }); speech = back i })
+    ∙ (λ i. record { answer = Ok (record { crc_valid = valid_own order many i; corrected = 0 }); speech = back i })
 
-pub acelp_round_trip : (speech frame₀ frame speech₀ : List ℕ) (r : Wrote) → length speech ≡ 148 → all_binary speech ≡ true → length frame₀ ≡ 260 → length speech₀ ≡ 148
-    → Encoding speech frame₀ frame r → decode_call frame speech₀ ≡ record { answer = accepted (record { valid = true; corrected = 0 }); speech = speech }
+pub acelp_round_trip : (speech frame₀ frame speech₀ : List ℕ) (r : Arguments) → length speech ≡ 148 → all_binary speech ≡ true → length frame₀ ≡ 260 → length speech₀ ≡ 148
+    → Encoding speech frame₀ frame r → decode_call frame speech₀ ≡ record { answer = Ok (record { crc_valid = true; corrected = 0 }); speech = speech }
 acelp_round_trip speech frame₀ frame speech₀ r size b room room' e =
     ap (λ (l : List ℕ). decode_call l speech₀) (e.done (room_passed 148 speech 260 (length frame₀) size room b)).1
     ∙ own_bits (bits speech) speech₀ (length-map speech bit ∙ size) room'
-    ∙ ap (λ (l : List ℕ). record { answer = accepted (record { valid = true; corrected = 0 }); speech = l }) (bytes_bits speech b)
+    ∙ ap (λ (l : List ℕ). record { answer = Ok (record { crc_valid = true; corrected = 0 }); speech = l }) (bytes_bits speech b)

@@ -8,14 +8,12 @@ use Prim.Native.Nat.{ℕ, ◌*◌}
 use native.Mathlib.Omega.{arith}
 use lib.ListN.{length, length-map, length-reverse}
 use borrow.Author.Tests.{eq-eqb}
+use Rattle.std.specs.Prelude.{Result, Ok, Err}
 use Rattle.bits.specs.Bits.{bit, byte, bits, bytes, disagreements}
 use Rattle.bits.specs.Numbers.{packed, unpacked}
-use Rattle.bits.specs.Refusals.{accepted, refused}
-use Rattle.bits.specs.Arguments.{first_refusal}
-use Rattle.bits.specs.declared.arguments.Arguments.{Arguments}
-use Rattle.bits.specs.declared.arguments.Arguments.TheVariants.{Passed, Refused}
+use Rattle.bits.specs.Arguments.{Arguments, first_refusal}
+use Rattle.bits.specs.declared.Refusal.{Refusal}
 use Rattle.bits.specs.declared.Refusal.TheVariants as refusal
-use Rattle.bits.specs.declared.Wrote.{Wrote}
 use Rattle.bits.proofs.Binary.{bits-bytes, bytes_bits, binary_bytes}
 use Rattle.bits.proofs.Listed.{length-listed}
 use Rattle.bits.proofs.Packed.{unpacked-length}
@@ -33,7 +31,8 @@ use Rattle.viterbi.specs.Hard.{weight, weight_from}
 use Rattle.speech.specs.Inputs.{bits_at, parity_places, parity_of, inputs_with, inputs_of, class_one_of}
 use Rattle.speech.specs.Classes.{placed, protected_of, class_two_of, is_class_two}
 use Rattle.speech.specs.Frames.{frame_of}
-use Rattle.speech.specs.Calls.{Told, Exit, Encoding, encode_arguments, decode_arguments, frame_weight, status_of, refused_exit, accepted_exit, decode_of, decoding, decode_call}
+use Rattle.speech.specs.declared.SpeechCandidate.{SpeechCandidate}
+use Rattle.speech.specs.Calls.{Exit, refused_exit, Encoding, encode_arguments, decode_arguments, frame_weight, status_of, accepted_exit, decode_of, decoding, decode_call}
 use Rattle.speech.specs.declared.CrcStatus.TheVariants.{Valid}
 use Rattle.bits.proofs.Refusing.{passed_two}
 use Rattle.speech.proofs.InputBits.{inputs_length}
@@ -50,20 +49,20 @@ placed-length protected two = length-listed 260 _
 placed_through : (protected two : List Bool) → length two ≡ 82 → class_two_of (bytes (placed protected two)) ≡ bytes two
 placed_through protected two e = sym (map-taken byte is_class_two 0 (placed protected two)) ∙ ap bytes (placed_two protected two e)
 
-module _ (frame one₀ two₀ : List ℕ) {t : Told} where
+module _ (frame one₀ two₀ : List ℕ) {t : SpeechCandidate} where
   accepted_two : Decided (Terminated 89) (frame_weight frame) (λ w n. accepted_exit frame (reverse w) n) (refused_exit refusal.Ambiguous one₀ two₀) (decode_of frame one₀ two₀)
-      → (decode_of frame one₀ two₀).answer ≡ accepted t → (decode_of frame one₀ two₀).class_two ≡ class_two_of frame
+      → (decode_of frame one₀ two₀).answer ≡ Ok t → (decode_of frame one₀ two₀).class_two ≡ class_two_of frame
   unfolding accepted_exit
   accepted_two (inl s) e = ap (λ (x : Exit). x.class_two) s.decides
-  accepted_two (inr s) e = let told : refused refusal.Ambiguous ≡ accepted t = sym (ap (λ (x : Exit). x.answer) s.decides) ∙ e in let z : ◌≡◌ {A = ℕ} 0 1 = cc in absurd (omega arith)
+  accepted_two (inr s) e = let told : ◌≡◌ {A = Result SpeechCandidate Refusal} (Err refusal.Ambiguous) (Ok t) = sym (ap (λ (x : Exit). x.answer) s.decides) ∙ e in let z : ◌≡◌ {A = ℕ} 0 1 = cc in absurd (omega arith)
 
-  call_two : (l : Arguments) → (decoding l frame one₀ two₀).answer ≡ accepted t → (decoding l frame one₀ two₀).class_two ≡ class_two_of frame
-  call_two Passed e = accepted_two (vselp_decided frame one₀ two₀) e
-  call_two (Refused why) e = let z : ◌≡◌ {A = ℕ} 0 1 = cc in absurd (omega arith)
+  call_two : (l : Arguments) → (decoding l frame one₀ two₀).answer ≡ Ok t → (decoding l frame one₀ two₀).class_two ≡ class_two_of frame
+  call_two (Ok p) e = accepted_two (vselp_decided frame one₀ two₀) e
+  call_two (Err why) e = let z : ◌≡◌ {A = ℕ} 0 1 = cc in absurd (omega arith)
 
 -- an accepted frame has its class two, whatever the protected bits are
-pub class_two_through : (protected two : List Bool) (one₀ two₀ : List ℕ) {t : Told} → length two ≡ 82
-    → (decode_call (bytes (placed protected two)) one₀ two₀).answer ≡ accepted t → (decode_call (bytes (placed protected two)) one₀ two₀).class_two ≡ bytes two
+pub class_two_through : (protected two : List Bool) (one₀ two₀ : List ℕ) {t : SpeechCandidate} → length two ≡ 82
+    → (decode_call (bytes (placed protected two)) one₀ two₀).answer ≡ Ok t → (decode_call (bytes (placed protected two)) one₀ two₀).class_two ≡ bytes two
 class_two_through protected two one₀ two₀ size e =
     let frame : List ℕ = bytes (placed protected two) in
     call_two frame one₀ two₀ (decode_arguments frame (length one₀) (length two₀)) e ∙ placed_through protected two size
@@ -121,7 +120,7 @@ module _ (one two : List Bool) (size : length one ≡ 77) where
   unfolding inputs_of
   own_one = inputs_one one _ size
 
-  passed : (n m : ℕ) → n ≡ 77 → m ≡ 82 → decode_arguments (bytes (frame_of one two)) n m ≡ Passed
+  passed : (n m : ℕ) → n ≡ 77 → m ≡ 82 → decode_arguments (bytes (frame_of one two)) n m ≡ Ok tt
   unfolding frame_of
   passed n m en em =
       let frame : List ℕ = bytes (frame_of one two) in
@@ -130,7 +129,7 @@ module _ (one two : List Bool) (size : length one ≡ 77) where
 
   -- of the frame of speech bits
   pub vselp_round_trip : length two ≡ 82 → (one₀ two₀ : List ℕ) → length one₀ ≡ 77 → length two₀ ≡ 82
-      → decode_call (bytes (frame_of one two)) one₀ two₀ ≡ record { answer = accepted (record { crc = Valid; corrected = 0 }); class_one = bytes one; class_two = bytes two }
+      → decode_call (bytes (frame_of one two)) one₀ two₀ ≡ record { answer = Ok (record { crc = Valid; corrected = 0 }); class_one = bytes one; class_two = bytes two }
   unfolding accepted_exit frame_of sent
   vselp_round_trip twos one₀ two₀ room-one room-two =
       let frame : List ℕ = bytes (frame_of one two) in
@@ -138,14 +137,14 @@ module _ (one two : List Bool) (size : length one ≡ 77) where
       ap (λ (l : Arguments). decoding l frame one₀ two₀) (passed (length one₀) (length two₀) room-one room-two)
       ∙ decided_alone (vselp_decided frame one₀ two₀) (record { word = own; least = λ u h. omega (arith, own_weight) }) alone
       ∙ ap₂ (accepted_exit frame) (reverse-reverse (inputs_of one)) own_weight
-      ∙ (λ i. record { answer = accepted (record { crc = valid_own i; corrected = 0 }); class_one = bytes (own_one i); class_two = through i })
+      ∙ (λ i. record { answer = Ok (record { crc = valid_own i; corrected = 0 }); class_one = bytes (own_one i); class_two = through i })
 
 -- ---- what `encode` writes, `decode_candidate` reads
-pub encoded_back : (one two one₀ two₀ : List ℕ) {frame₀ frame : List ℕ} (r : Wrote) → encode_arguments one two (length frame₀) ≡ Passed
+pub encoded_back : (one two one₀ two₀ : List ℕ) {frame₀ frame : List ℕ} (r : Arguments) → encode_arguments one two (length frame₀) ≡ Ok tt
     → length one₀ ≡ 77 → length two₀ ≡ 82 → Encoding one two frame₀ frame r
-    → decode_call frame one₀ two₀ ≡ record { answer = accepted (record { crc = Valid; corrected = 0 }); class_one = one; class_two = two }
+    → decode_call frame one₀ two₀ ≡ record { answer = Ok (record { crc = Valid; corrected = 0 }); class_one = one; class_two = two }
 encoded_back one two one₀ two₀ {frame₀} r fits room-one room-two e =
     let t = passed_two 77 one 82 two 260 (length frame₀) refl fits in
     ap (λ (l : List ℕ). decode_call l one₀ two₀) (e.done fits).1
     ∙ vselp_round_trip (bits one) (bits two) (length-map one bit ∙ t.0.0) (length-map two bit ∙ t.0.1) one₀ two₀ room-one room-two
-    ∙ ap₂ (λ (x y : List ℕ). record { answer = accepted (record { crc = Valid; corrected = 0 }); class_one = x; class_two = y }) (bytes_bits one t.1.0) (bytes_bits two t.1.1)
+    ∙ ap₂ (λ (x y : List ℕ). record { answer = Ok (record { crc = Valid; corrected = 0 }); class_one = x; class_two = y }) (bytes_bits one t.1.0) (bytes_bits two t.1.1)

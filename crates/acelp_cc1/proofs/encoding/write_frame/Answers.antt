@@ -1,18 +1,27 @@
--- `acelp_cc1::encoding::write_frame` meets its contract. Assumes nothing.
-use mathlib.Core.Path.{refl}
-use Rattle.acelp_cc1.proofs.Framing.{sorted_passed, inputs_passed, framed}
+-- `acelp_cc1::encoding::write_frame` meets its contract: the protected bits, and class two. Assumes nothing.
+use mathlib.Core.Path.{refl, sym, ◌∙◌}
+use native.Mathlib.Omega.{arith}
+use Rattle.std.proofs.lemmas.Slice.{between_to_end}
+use Rattle.acelp_cc1.specs.Frames.{speech_order}
+use Rattle.acelp_cc1.proofs.Framing.{sorted_binary, inputs_binary, framed}
+use Rattle.acelp_cc1.proofs.Ordering.{taken-ordered}
+use Rattle.acelp_cc1.proofs.Placing.{asks_gather, speech_size, speech_apart}
 use Rattle.acelp_cc1.proofs.encoding.write_frame.Goals as goal
 
-pub fill_inputs-requires : goal.fill_inputs-requires
-fill_inputs-requires c =
-    let passed = sorted_passed _ c.requires.1 c.order.ensures in
-    (passed.0, passed.1, refl)
+pub gather-requires : goal.gather-requires
+unfolding speech_order
+gather-requires c = asks_gather _ _ 148 _ _ refl speech_apart c.requires.0 (sym speech_size)
+
+pub inputs_of-inputs-requires : goal.inputs_of-inputs-requires
+unfolding speech_order
+inputs_of-inputs-requires c = sorted_binary _ c.requires.1 (taken-ordered _ refl c.gather.ensures)
 
 pub send-requires : goal.send-requires
-send-requires c =
-    let passed = inputs_passed _ c.requires.1 c.order.ensures c.fill_inputs.ensures in
-    (passed.0, passed.1, c.requires.2)
+unfolding speech_order
+send-requires c = (inputs_binary _ c.requires.1 (taken-ordered _ refl c.gather.ensures) c.inputs_of-inputs.ensures, c.requires.2)
 
 pub returns : goal.returns
+unfolding speech_order
 returns c =
-    framed _ c.requires.1 c.order.ensures c.fill_inputs.ensures c.args.frame.now c.send.ensures c.copy_end.ensures
+    framed _ c.requires.1 (taken-ordered _ refl c.gather.ensures) c.inputs_of-inputs.ensures c.args.frame.now _ (omega arith) c.send.ensures
+    (c.copy_from_slice.ensures.after ∙ between_to_end c.gather.new.to 96 148 (omega (arith, c.gather.auto.to)))

@@ -4,13 +4,8 @@ use Rattle.speech.proofs.Settling.{protected_binary, found}
 use Rattle.speech.proofs.decoding.nearest_inputs.Goals as goal
 
 pub terminated-requires : goal.terminated-requires
-terminated-requires c = (
-  omega (arith, c.requires.2),
-  omega (arith, c.requires.2),
-  omega (arith, c.requires.2, c.take_protected.auto.protected),
-  protected_binary c.args.frame.now c.take_protected.ensures c.requires.1,
-)
+terminated-requires c =
+    (omega (arith, c.told-inputs), omega (arith, c.told-inputs), omega (arith, c.told-inputs), protected_binary c.args.frame.now c.take_protected.ensures c.requires.1)
 
 pub returns : goal.returns
-returns c =
-    found c.args.frame.now c.take_protected.ensures c.requires.2 c.terminated.ensures
+returns c = found c.args.frame.now c.take_protected.ensures c.told-inputs c.terminated.ensures

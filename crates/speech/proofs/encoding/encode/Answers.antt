@@ -1,15 +1,26 @@
--- `speech::encoding::encode` meets its contract: a refusal, or the frame. Assumes nothing.
-use Rattle.bits.proofs.Writing.{declined_end, done_end}
-use Rattle.bits.proofs.Refusing.{passed_two}
+-- `speech::encoding::encode` meets its contract: a refusal, or the protected bits and class two at their places. Assumes nothing.
+use mathlib.Core.Path.{ap, ◌∙◌}
+use Rattle.bits.specs.Bits.{bits, bytes, all_binary}
+use Rattle.bits.proofs.Binary.{bits-bytes, binary_bytes}
+use Rattle.bits.proofs.Writing.{done_end}
+use Rattle.coding.specs.Codes.{coded, dcch}
+use Rattle.coding.specs.Registers.{memory_high}
+use borrow.Author.Rules.{rules}
+use Rattle.speech.specs.Classes.{placed}
+use Rattle.speech.specs.Frames.{frame_of}
+use Rattle.speech.specs.Inputs.{inputs_of}
 use Rattle.speech.proofs.encoding.encode.Goals as goal
 
-pub returns-in-Refused : goal.returns-in-Refused
-returns-in-Refused c = declined_end c.two_and_room-ready.ensures _ c.in-Refused.is
-
-pub fill_frame-requires : goal.fill_frame-requires
-fill_frame-requires c =
-    let passed = passed_two 77 c.args.class_one.now 82 c.args.class_two.now 260 _ c.two_and_room-ready.ensures c.in_default.is in
-    record { class_one_len = passed.0; class_one_value = passed.1 }
+pub merge-requires-clause-binary : goal.merge-requires-clause-binary
+merge-requires-clause-binary c =
+    let sent = coded dcch (memory_high 0) (inputs_of (bits c.args.class_one.now)) in
+    (ap all_binary c.encode_class_one.ensures ∙ binary_bytes sent, search rules)
 
 pub returns : goal.returns
-returns c = done_end c.two_and_room-ready.ensures c.in_default.is c.fill_frame.ensures
+unfolding frame_of
+returns c =
+    let two = bits c.args.class_two.now in
+    done_end c.two_and_room.ensures c.in_ok-two_and_room.was
+    (c.merge.ensures
+    ∙ ap (λ l. bytes (placed (bits l) two)) c.encode_class_one.ensures
+    ∙ ap (λ u. bytes (placed u two)) (bits-bytes (coded dcch (memory_high 0) (inputs_of (bits c.args.class_one.now)))))

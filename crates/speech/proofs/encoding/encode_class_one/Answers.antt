@@ -12,15 +12,12 @@ use Rattle.speech.proofs.encoding.encode_class_one.Goals as goal
 
 pub convolutional_encode-requires : goal.convolutional_encode-requires
 convolutional_encode-requires c =
-    let one = bits c.args.class_one.now in
-    let filled = c.fill_inputs.ensures in (
-      omega arith,
-      omega (arith, c.requires.2, ap length filled ∙ length-map (inputs_of one) byte ∙ inputs_length one),
-      ap all_binary filled ∙ binary_bytes (inputs_of one),
-    )
+    let inputs = inputs_of (bits c.args.class_one.now) in
+    let filled = c.inputs_of-inputs.ensures in
+    (omega arith, omega (arith, ap length filled ∙ length-map inputs byte ∙ inputs_length (bits c.args.class_one.now)), ap all_binary filled ∙ binary_bytes inputs)
 
 pub returns : goal.returns
 returns c =
     c.convolutional_encode.ensures.bits
-    ∙ ap (λ l. bytes (coded dcch (memory_high 0) (bits l))) c.fill_inputs.ensures
+    ∙ ap (λ l. bytes (coded dcch (memory_high 0) (bits l))) c.inputs_of-inputs.ensures
     ∙ ap (λ u. bytes (coded dcch (memory_high 0) u)) (bits-bytes (inputs_of (bits c.args.class_one.now)))

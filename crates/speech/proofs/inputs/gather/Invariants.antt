@@ -5,4 +5,4 @@ use Rattle.bits.proofs.Filled.{Filling}
 use Rattle.speech.proofs.inputs.gather.Given as goal
 
 abbrev pub invariant-loop-i : goal.invariant-loop-i
-invariant-loop-i l = (l.i-end ≡ length l.places) × Filling (λ k x. x ≡ get_or l.inputs (get_or l.places k 0) 0) 0 (length l.places) l.out l.i
+invariant-loop-i g l = Filling (λ k x. x ≡ get_or l.inputs (get_or l.places k 0) 0) 0 (length l.places) l.bits l.i

@@ -1,11 +1,8 @@
--- `speech::inputs::put_parity` meets its contract: the first i places of the checksum are written. Assumes nothing.
-use Prim.Native.Nat.{◌-◌}
-use lib.ListN.{get_or}
+-- `speech::inputs::put_parity` meets its contract: the places passed hold their checksum bits. Assumes nothing.
+use lib.ListN.{length, get_or}
 use Rattle.bits.proofs.Scattered.{Scattering}
+use Rattle.speech.specs.Inputs.{parity_places}
 use Rattle.speech.proofs.inputs.put_parity.Given as goal
 
-abbrev pub invariant-loop-i : goal.invariant-loop-i
-invariant-loop-i l = Scattering l.places (λ k. get_or l.parity k 0) 0 89 l.initial.inputs l.inputs l.i
-
-abbrev pub decreases-loop-i : goal.decreases-loop-i
-decreases-loop-i l = 7 - l.i
+abbrev pub invariant-loop-place : goal.invariant-loop-place
+invariant-loop-place l = Scattering parity_places (λ k. get_or l.parity k 0) 0 89 l.initial.inputs l.inputs (length l.yielded)

@@ -1,38 +1,18 @@
 -- `speech::ranges::put_ranges` meets its contract: the ranges passed hold their bits. Assumes nothing.
 use mathlib.Core.Path.{refl}
+use Prim.Native.Nat.{ℕ}
 use native.Mathlib.Omega.{arith}
-use Rattle.speech.proofs.Copying.{putting_none, putting_read, putting_room, putting_more, putting_done, in_bounds, ordered}
+use lib.ListN.{length-drop}
+use Rattle.speech.proofs.Copying.{copied, long_of, putting_read, putting_more, putting_done}
 use Rattle.speech.proofs.ranges.put_ranges.Goals as goal
 
-pub loop-range-init : goal.loop-range-init
-loop-range-init c = (refl, putting_none)
-
-pub bounds-bounds-range : goal.bounds-bounds-range
-bounds-bounds-range c =
-    omega (arith, in_bounds c.args.bounds.now c.requires.0 c.loop-range.range (omega arith))
-
-pub bounds-bounds-range-in-loop-range : goal.bounds-bounds-range-in-loop-range
-bounds-bounds-range-in-loop-range c =
-    in_bounds c.args.bounds.now c.requires.0 c.loop-range.range (omega arith)
-
-pub overflow_sub-n : goal.overflow_sub-n
-overflow_sub-n c =
-    ordered c.args.bounds.now c.requires.0 c.loop-range.range (omega arith)
-
-pub copy_range-requires : goal.copy_range-requires
-copy_range-requires c =
-    (putting_read c.loop-range.invariant.1 c.requires.0 (omega arith) c.requires.1, putting_room c.loop-range.invariant.1 c.requires.0 (omega arith))
-
-pub overflow_add-at : goal.overflow_add-at
-overflow_add-at c =
-    omega (arith, putting_read c.loop-range.invariant.1 c.requires.0 (omega arith) c.requires.1)
+pub slice_bounds-copy_from_slice-end-in-loop-range : goal.slice_bounds-copy_from_slice-end-in-loop-range
+slice_bounds-copy_from_slice-end-in-loop-range c = putting_read c.loop-range.invariant c.requires.0 (omega arith) c.requires.1
 
 pub loop-range-preserved : goal.loop-range-preserved
 loop-range-preserved c =
-    (refl, putting_more c.loop-range.invariant.1 c.requires.0 (omega arith) c.requires.1 c.copy_range.ensures)
-
-pub shape_of-list : goal.shape_of-list
-shape_of-list c = c.loop-range.invariant.1.size
+    let read = putting_read c.loop-range.invariant c.requires.0 (omega arith) c.requires.1 in
+    putting_more c.loop-range.invariant c.requires.0 (omega arith) c.requires.1 (copied _ _ _ (long_of c.args.ranges.now c.loop-range.range-index) refl (omega arith) (omega (arith, length-drop {A = ℕ})) c.copy_from_slice.ensures.after)
 
 pub returns : goal.returns
-returns c = putting_done c.loop-range.invariant.1 c.requires.0 (omega arith)
+returns c = putting_done c.loop-range.invariant c.requires.0 (omega arith)
