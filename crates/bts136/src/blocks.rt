@@ -5,6 +5,7 @@ ghost use Rattle.dcch_interleaver.specs.declared.BlockFormat.TheVariants.{Forwar
 ghost use Rattle.flat_coding.specs.Calls.{FlatWrote};
 ghost use Rattle.flat_dcch.specs.Blocks.{FlatDecoded, mode_of};
 
+use dcch_interleaver::BlockFormat;
 use flat_coding::calls::Written;
 use flat_dcch::Block;
 
@@ -18,7 +19,7 @@ pub extern "C" fn bts136_dcch_encode_forward(
 ) -> Written
     ensures { FlatWrote (Encoding Forward information.now dvcc (mode_of broadcast) block.old block.new) result }
 {
-    flat_dcch::encode_forward(information, dvcc, broadcast, block)
+    flat_dcch::encode(BlockFormat::Forward, information, dvcc, broadcast, block)
 }
 
 // Codes 101 bits of information into the 244 of a normal reverse block. Refused as above.
@@ -31,7 +32,13 @@ pub extern "C" fn bts136_dcch_encode_reverse_normal(
 ) -> Written
     ensures { FlatWrote (Encoding ReverseNormal information.now dvcc (mode_of broadcast) block.old block.new) result }
 {
-    flat_dcch::encode_reverse_normal(information, dvcc, broadcast, block)
+    flat_dcch::encode(
+        BlockFormat::ReverseNormal,
+        information,
+        dvcc,
+        broadcast,
+        block,
+    )
 }
 
 // Codes 79 bits of information into the 200 of an abbreviated reverse block. Refused as above.
@@ -44,7 +51,13 @@ pub extern "C" fn bts136_dcch_encode_reverse_abbreviated(
 ) -> Written
     ensures { FlatWrote (Encoding ReverseAbbreviated information.now dvcc (mode_of broadcast) block.old block.new) result }
 {
-    flat_dcch::encode_reverse_abbreviated(information, dvcc, broadcast, block)
+    flat_dcch::encode(
+        BlockFormat::ReverseAbbreviated,
+        information,
+        dvcc,
+        broadcast,
+        block,
+    )
 }
 
 // Decodes the 260 bits of a forward block to the nearest word and writes its 109 bits of information. corrected is the number of bits in which block and
@@ -58,7 +71,7 @@ pub extern "C" fn bts136_dcch_decode_forward(
 ) -> Block
     ensures { FlatDecoded (Decoding Forward block.now dvcc (mode_of broadcast) information.old information.new) result }
 {
-    flat_dcch::decode_forward(block, dvcc, broadcast, information)
+    flat_dcch::decode(BlockFormat::Forward, block, dvcc, broadcast, information)
 }
 
 // The same of the 244 bits of a normal reverse block, with 101 of information.
@@ -71,7 +84,13 @@ pub extern "C" fn bts136_dcch_decode_reverse_normal(
 ) -> Block
     ensures { FlatDecoded (Decoding ReverseNormal block.now dvcc (mode_of broadcast) information.old information.new) result }
 {
-    flat_dcch::decode_reverse_normal(block, dvcc, broadcast, information)
+    flat_dcch::decode(
+        BlockFormat::ReverseNormal,
+        block,
+        dvcc,
+        broadcast,
+        information,
+    )
 }
 
 // The same of the 200 bits of an abbreviated reverse block, with 79 of information.
@@ -84,7 +103,13 @@ pub extern "C" fn bts136_dcch_decode_reverse_abbreviated(
 ) -> Block
     ensures { FlatDecoded (Decoding ReverseAbbreviated block.now dvcc (mode_of broadcast) information.old information.new) result }
 {
-    flat_dcch::decode_reverse_abbreviated(block, dvcc, broadcast, information)
+    flat_dcch::decode(
+        BlockFormat::ReverseAbbreviated,
+        block,
+        dvcc,
+        broadcast,
+        information,
+    )
 }
 
 // Decodes the 260 reliabilities of a forward block and writes 109 bits of information. A positive reliability favours zero, a negative one favours one,
@@ -100,7 +125,7 @@ pub extern "C" fn bts136_dcch_decode_soft_forward(
 ) -> Block
     ensures { FlatDecoded (SoftDecoding Forward block.now dvcc (mode_of broadcast) information.old information.new) result }
 {
-    flat_dcch::decode_soft_forward(block, dvcc, broadcast, information)
+    flat_dcch::decode_soft(BlockFormat::Forward, block, dvcc, broadcast, information)
 }
 
 // The same of the 244 reliabilities of a normal reverse block, with 101 bits of information.
@@ -113,7 +138,13 @@ pub extern "C" fn bts136_dcch_decode_soft_reverse_normal(
 ) -> Block
     ensures { FlatDecoded (SoftDecoding ReverseNormal block.now dvcc (mode_of broadcast) information.old information.new) result }
 {
-    flat_dcch::decode_soft_reverse_normal(block, dvcc, broadcast, information)
+    flat_dcch::decode_soft(
+        BlockFormat::ReverseNormal,
+        block,
+        dvcc,
+        broadcast,
+        information,
+    )
 }
 
 // The same of the 200 reliabilities of an abbreviated reverse block, with 79 bits of information.
@@ -126,5 +157,11 @@ pub extern "C" fn bts136_dcch_decode_soft_reverse_abbreviated(
 ) -> Block
     ensures { FlatDecoded (SoftDecoding ReverseAbbreviated block.now dvcc (mode_of broadcast) information.old information.new) result }
 {
-    flat_dcch::decode_soft_reverse_abbreviated(block, dvcc, broadcast, information)
+    flat_dcch::decode_soft(
+        BlockFormat::ReverseAbbreviated,
+        block,
+        dvcc,
+        broadcast,
+        information,
+    )
 }

@@ -7,6 +7,7 @@ ghost use Rattle.facch.specs.Words.{Encoding};
 ghost use Rattle.flat_coding.specs.Calls.{FlatWrote};
 ghost use Rattle.flat_facch.specs.Words.{flat_content};
 
+use facch_interleaver::WordHalf;
 use flat_coding::calls::Written;
 use flat_facch::Word;
 
@@ -52,7 +53,7 @@ pub extern "C" fn bts136_facch_deinterleave(
 pub extern "C" fn bts136_facch_observe_start(slot: &[u8], coded: &mut [u8]) -> Written
     ensures { FlatWrote (Observing slot.now Start coded.old coded.new) result }
 {
-    flat_facch::observe_start(slot, coded)
+    flat_facch::observe_half(slot, WordHalf::Start, coded)
 }
 
 // The same of the word that ends in the slot.
@@ -60,7 +61,7 @@ pub extern "C" fn bts136_facch_observe_start(slot: &[u8], coded: &mut [u8]) -> W
 pub extern "C" fn bts136_facch_observe_end(slot: &[u8], coded: &mut [u8]) -> Written
     ensures { FlatWrote (Observing slot.now End coded.old coded.new) result }
 {
-    flat_facch::observe_end(slot, coded)
+    flat_facch::observe_half(slot, WordHalf::End, coded)
 }
 
 // Decodes the 260 bits of a word to the one nearest word. Refused: 1, 2, 5, 3.

@@ -7,6 +7,7 @@ ghost use Rattle.flat_speech.specs.Frames.{AcelpExit, VselpExit};
 ghost use Rattle.speech.specs.Calls as vselp_calls;
 ghost use Rattle.speech_interleaver.specs.Wire as vselp_wire;
 
+use acelp_interleaver::Interleaving;
 use flat_coding::calls::Written;
 use flat_speech::Frame;
 
@@ -80,7 +81,7 @@ pub extern "C" fn bts136_acelp_decode(frame: &[u8], speech: &mut [u8]) -> Frame
 pub extern "C" fn bts136_acelp_interleave_one(history: &[u8], slot: &mut [u8]) -> Written
     ensures { FlatWrote (acelp_wire.InterleavingCall history.now One slot.old slot.new) result }
 {
-    flat_speech::acelp_interleave_one(history, slot)
+    flat_speech::acelp_interleave(history, Interleaving::One, slot)
 }
 
 // The frame of 260 bits that lies in one slot. slots has 780 bits: three slots, oldest first, of which as many of the oldest are read as the frame has.
@@ -89,7 +90,7 @@ pub extern "C" fn bts136_acelp_interleave_one(history: &[u8], slot: &mut [u8]) -
 pub extern "C" fn bts136_acelp_deinterleave_one(slots: &[u8], frame: &mut [u8]) -> Written
     ensures { FlatWrote (acelp_wire.DeinterleavingCall slots.now One frame.old frame.new) result }
 {
-    flat_speech::acelp_deinterleave_one(slots, frame)
+    flat_speech::acelp_deinterleave(slots, Interleaving::One, frame)
 }
 
 // The same where a frame lies over two slots.
@@ -97,7 +98,7 @@ pub extern "C" fn bts136_acelp_deinterleave_one(slots: &[u8], frame: &mut [u8]) 
 pub extern "C" fn bts136_acelp_interleave_two(history: &[u8], slot: &mut [u8]) -> Written
     ensures { FlatWrote (acelp_wire.InterleavingCall history.now Two slot.old slot.new) result }
 {
-    flat_speech::acelp_interleave_two(history, slot)
+    flat_speech::acelp_interleave(history, Interleaving::Two, slot)
 }
 
 // The same where it lies over two slots.
@@ -105,7 +106,7 @@ pub extern "C" fn bts136_acelp_interleave_two(history: &[u8], slot: &mut [u8]) -
 pub extern "C" fn bts136_acelp_deinterleave_two(slots: &[u8], frame: &mut [u8]) -> Written
     ensures { FlatWrote (acelp_wire.DeinterleavingCall slots.now Two frame.old frame.new) result }
 {
-    flat_speech::acelp_deinterleave_two(slots, frame)
+    flat_speech::acelp_deinterleave(slots, Interleaving::Two, frame)
 }
 
 // The same where a frame lies over three slots.
@@ -113,7 +114,7 @@ pub extern "C" fn bts136_acelp_deinterleave_two(slots: &[u8], frame: &mut [u8]) 
 pub extern "C" fn bts136_acelp_interleave_three(history: &[u8], slot: &mut [u8]) -> Written
     ensures { FlatWrote (acelp_wire.InterleavingCall history.now Three slot.old slot.new) result }
 {
-    flat_speech::acelp_interleave_three(history, slot)
+    flat_speech::acelp_interleave(history, Interleaving::Three, slot)
 }
 
 // The same where it lies over three slots.
@@ -121,5 +122,5 @@ pub extern "C" fn bts136_acelp_interleave_three(history: &[u8], slot: &mut [u8])
 pub extern "C" fn bts136_acelp_deinterleave_three(slots: &[u8], frame: &mut [u8]) -> Written
     ensures { FlatWrote (acelp_wire.DeinterleavingCall slots.now Three frame.old frame.new) result }
 {
-    flat_speech::acelp_deinterleave_three(slots, frame)
+    flat_speech::acelp_deinterleave(slots, Interleaving::Three, frame)
 }

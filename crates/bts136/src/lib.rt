@@ -20,6 +20,7 @@ ghost use Rattle.flat_coding.specs.Flat.{StepAnswer, flat_checksum};
 ghost use Rattle.flat_coding.specs.FlatSearch.{SearchAnswer};
 ghost use Rattle.flat_dcch.specs.Blocks.{mode_of};
 
+use coding::codes::{Acelp, Dcch, Facch};
 use flat_coding::bare_search::Search;
 use flat_coding::{Checksum, Step};
 
@@ -28,7 +29,7 @@ use flat_coding::{Checksum, Step};
 pub extern "C" fn bts136_dcch_transition(state: u8, input: u8) -> Step
     ensures { StepAnswer dcch memory_high state input result }
 {
-    flat_coding::dcch_transition(state, input)
+    flat_coding::transition::<Dcch, 2>(state, input)
 }
 
 // One step of the code of FACCH, with 4 coded bits. Refused as above.
@@ -36,7 +37,7 @@ pub extern "C" fn bts136_dcch_transition(state: u8, input: u8) -> Step
 pub extern "C" fn bts136_facch_transition(state: u8, input: u8) -> Step
     ensures { StepAnswer facch memory_high state input result }
 {
-    flat_coding::facch_transition(state, input)
+    flat_coding::transition::<Facch, 4>(state, input)
 }
 
 // One step of the code of ACELP CC1, with 2 coded bits. Refused as above.
@@ -44,7 +45,7 @@ pub extern "C" fn bts136_facch_transition(state: u8, input: u8) -> Step
 pub extern "C" fn bts136_acelp_transition(state: u8, input: u8) -> Step
     ensures { StepAnswer acelp memory_low state input result }
 {
-    flat_coding::acelp_transition(state, input)
+    flat_coding::transition::<Acelp, 2>(state, input)
 }
 
 // The 16-bit checksum of any number of bits under a colour code. Refused: 2.

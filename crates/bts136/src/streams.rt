@@ -4,7 +4,7 @@ ghost use Rattle.sacch_decoder.specs.Decoding.{decoding, decode_arguments};
 ghost use Rattle.sacch_encoder.specs.Encoder.{encode_bits_of, encode_word_of, fresh_encoder};
 ghost use Rattle.sacch_interleaver.specs.Deinterleaver.{fresh_deinterleaver, push_row_of};
 ghost use Rattle.sacch_receiver.specs.Receiver.{fresh_receiver, push_of, push_word_of};
-ghost use Rattle.flat_sacch.specs.Flat.{flat_field, flat_fields, flat_moved, flat_pushed_row, flat_receiver, flat_word, receiver_of};
+ghost use Rattle.flat_sacch.specs.Flat.{flat_field, flat_fields, flat_moved, flat_moved_word, flat_pushed_row, flat_receiver, flat_word, receiver_of};
 
 use flat_sacch::{Field, Fields, Pushed, Receiver, Row, Word};
 use sacch::{SacchDeinterleaver, SacchEncoder};
@@ -109,7 +109,7 @@ pub extern "C" fn bts136_sacch_pushed(receiver: Receiver, field: u16, dvcc: u8) 
 // The same with a word or nothing: a rejection is BTS136_PENDING. Refused as above.
 #[unsafe(no_mangle)]
 pub extern "C" fn bts136_sacch_push(receiver: Receiver, field: u16, dvcc: u8) -> Pushed
-    ensures { result ≡ flat_moved (push_word_of (receiver_of receiver) field dvcc) }
+    ensures { result ≡ flat_moved_word (push_word_of (receiver_of receiver) field dvcc) }
 {
     flat_sacch::push(receiver, field, dvcc)
 }

@@ -1,4 +1,4 @@
--- What can be searched, and the ways out of the two searches. Assumes nothing.
+-- What can be searched, and the answer of a search. Assumes nothing.
 use mathlib.Core.Path.{◌≡◌, refl, sym, ap, ◌∙◌}
 use mathlib.Core.Bool.{Bool, true, false, cond}
 use mathlib.Core.List.{List}
@@ -9,30 +9,29 @@ use lib.ListN.{length}
 use borrow.Author.Tests.{ltb-true, ltb-false, eqb-true, eqb-false, lt-ltb, le-ltb, eq-eqb, ne_eqb}
 use Rattle.bits.specs.Bits.{all_binary}
 use Rattle.bits.specs.Refusals.{number_of, expected_of, actual_of}
-use Rattle.bits.specs.Arguments.{exact_of, binary_of}
+use Rattle.bits.specs.Arguments.{Arguments, exact_of, binary_of}
 use Rattle.bits.specs.declared.Refusal.{Refusal}
 use Rattle.bits.proofs.Refusing.{never_both, passed_first, passed_exact, passed_binary}
 use Rattle.trellis.specs.declared.Outcome.{Outcome}
-use Rattle.bits.specs.declared.arguments.Arguments.{Arguments}
-use Rattle.bits.specs.declared.arguments.Arguments.TheVariants.{Passed, Refused}
+use Rattle.std.specs.Prelude.{Ok, Err}
 use Rattle.flat_coding.specs.declared.bare_search.Search.{Search}
 use Rattle.flat_coding.specs.FlatSearch.{pair_arguments, search_arguments, no_search, SearchAnswer}
 
--- ---- Passed says that every test was passed
-apart : (n : ℕ) (x : Arguments) (t : Bool) → (t ≡ true → 260 ≡ n → ⊥) → cond t (exact_of 260 n) x ≡ Passed → (t ≡ false) × (x ≡ Passed)
+-- ---- Ok says that every test was passed
+apart : (n : ℕ) (x : Arguments) (t : Bool) → (t ≡ true → 260 ≡ n → ⊥) → cond t (exact_of 260 n) x ≡ Ok tt → (t ≡ false) × (x ≡ Ok tt)
 apart n x true far e = absurd (far refl (passed_exact 260 n e))
 apart n x false far e = (refl, e)
 
-passed_pairs : (n : ℕ) → pair_arguments n ≡ Passed → (10 ≤ n) × (n ≤ 260) × (n % 2 ≡ 0)
+passed_pairs : (n : ℕ) → pair_arguments n ≡ Ok tt → (10 ≤ n) × (n ≤ 260) × (n % 2 ≡ 0)
 unfolding pair_arguments
 passed_pairs n e =
     let a = apart n _ (ltb n 10) (λ t q. omega (arith, ltb-true n 10 t)) e in
     let b = apart n _ (ltb 260 n) (λ t q. omega (arith, ltb-true 260 n t)) a.1 in
-    let c = apart n Passed (eqb (n % 2) 1) (λ t q. omega (arith, eqb-true (n % 2) 1 t)) b.1 in
+    let c = apart n (Ok tt) (eqb (n % 2) 1) (λ t q. omega (arith, eqb-true (n % 2) 1 t)) b.1 in
     let odd : n % 2 ≡ 1 → ⊥ = eqb-false (n % 2) 1 c.0 in
     (ltb-false n 10 a.0, ltb-false 260 n b.0, omega (arith, odd))
 
-pub passed : (coded : List ℕ) (n : ℕ) → search_arguments coded n ≡ Passed → (5 ≤ n) × (n ≤ 130) × (length coded ≡ n * 2) × (all_binary coded ≡ true)
+pub passed : (coded : List ℕ) (n : ℕ) → search_arguments coded n ≡ Ok tt → (5 ≤ n) × (n ≤ 130) × (length coded ≡ n * 2) × (all_binary coded ≡ true)
 passed coded n e =
     let a = passed_first (pair_arguments (length coded)) _ e in
     let b = passed_first (exact_of (length coded / 2) n) (binary_of coded) a.1 in
@@ -42,35 +41,10 @@ passed coded n e =
 
 -- ---- the answers
 module _ {Finds : List ℕ → Outcome → Type 0} {coded word₀ : List ℕ} {l : Arguments} (told : l ≡ search_arguments coded (length word₀)) where
-  pub by_refusal : {r : Search} (why : Refusal) → l ≡ Refused why → r ≡ no_search why → SearchAnswer Finds coded word₀ word₀ r
-  by_refusal why e er =
-      record {
-        not_searched = λ y ey. let same : y ≡ why = cc in (er ∙ ap no_search (sym same), refl);
-        searched = λ ef. never_both ef (sym told ∙ e);
-      }
-
-  pub by_search : {word : List ℕ} {o : Outcome} → l ≡ Passed → Finds word o
+  pub by_search : {word : List ℕ} {o : Outcome} → l ≡ Ok tt → Finds word o
       → SearchAnswer Finds coded word₀ word (record { refusal = 0; expected = 0; actual = 0; metric = o.metric; tie = o.tie })
   by_search e f =
       record {
         not_searched = λ y ey. never_both e (told ∙ ey);
         searched = λ ef. (refl, refl, refl, f);
       }
-
--- ---- the ways out of `pairs`
-module _ (n : ℕ) where
-  pub too_short : n < 10 → exact_of 260 n ≡ pair_arguments n
-  unfolding pair_arguments
-  too_short h = rw (lt-ltb n 10 h)
-
-  pub too_long : 10 ≤ n → 260 < n → exact_of 260 n ≡ pair_arguments n
-  unfolding pair_arguments
-  too_long h k = rw (le-ltb n 10 h, lt-ltb 260 n k)
-
-  pub unpaired : 10 ≤ n → n ≤ 260 → n % 2 ≡ 1 → exact_of 260 n ≡ pair_arguments n
-  unfolding pair_arguments
-  unpaired h k e = rw (le-ltb n 10 h, le-ltb 260 n k, eq-eqb (n % 2) 1 e)
-
-  pub paired : 10 ≤ n → n ≤ 260 → (n % 2 ≡ 1 → ⊥) → Passed ≡ pair_arguments n
-  unfolding pair_arguments
-  paired h k e = rw (le-ltb n 10 h, le-ltb 260 n k, ne_eqb (n % 2) 1 e)

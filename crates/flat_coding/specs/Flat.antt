@@ -1,14 +1,13 @@
 -- What the flat functions answer: a number of document 01 and zeros, or 0 and the result.
-use Rattle.std.specs.Prelude.{◌≡◌, Bool, cond, List, ℕ, ◌-◌, ltb, length, take, drop, replicate}
+use Rattle.std.specs.Prelude.{◌≡◌, Bool, cond, List, ℕ, ◌-◌, ltb, length, take, drop, replicate, Result, Ok, Err}
 use Rattle.bits.specs.Bits.{bit}
-use Rattle.bits.specs.Refusals.{Answer, accepted, refused, number_of}
+use Rattle.bits.specs.Arguments.{Arguments}
+use Rattle.bits.specs.Refusals.{number_of}
 use Rattle.bits.specs.declared.Refusal.{Refusal}
 use Rattle.bits.specs.declared.Refusal.TheVariants.{Symbol, State}
 use Rattle.coding.specs.Registers.{Stepped}
 use Rattle.flat_coding.specs.declared.Step.{Step}
 use Rattle.flat_coding.specs.declared.Checksum.{Checksum}
-use Rattle.bits.specs.declared.arguments.Arguments.{Arguments}
-use Rattle.bits.specs.declared.arguments.Arguments.TheVariants.{Passed, Refused}
 
 -- ---- one step
 abbrev pub no_step : Refusal → Step
@@ -22,14 +21,14 @@ pub record Taken (code : List (List Bool)) (memory : ℕ → List Bool) (state i
 
 -- State where the state is above 31, then Symbol where the input is no bit
 unfoldable pub step_arguments : ℕ → ℕ → Arguments
-step_arguments state input = cond (ltb 31 state) (Refused State) (cond (ltb 1 input) (Refused Symbol) Passed)
+step_arguments state input = cond (ltb 31 state) (Err State) (cond (ltb 1 input) (Err Symbol) (Ok tt))
 
 -- the answer of a step
 pub record StepAnswer (code : List (List Bool)) (memory : ℕ → List Bool) (state input : ℕ) (r : Step) : Type 0 where
-  pub not_stepped : (why : Refusal) → step_arguments state input ≡ Refused why → r ≡ no_step why
-  pub taken : step_arguments state input ≡ Passed → Taken code memory state input r
+  pub not_stepped : (why : Refusal) → step_arguments state input ≡ Err why → r ≡ no_step why
+  pub taken : step_arguments state input ≡ Ok tt → Taken code memory state input r
 
 -- ---- a checksum
-abbrev pub flat_checksum : Answer ℕ → Checksum
-flat_checksum (accepted x) = record { refusal = 0; value = x }
-flat_checksum (refused why) = record { refusal = number_of why; value = 0 }
+abbrev pub flat_checksum : Result ℕ Refusal → Checksum
+flat_checksum (Ok x) = record { refusal = 0; value = x }
+flat_checksum (Err why) = record { refusal = number_of why; value = 0 }

@@ -1,18 +1,19 @@
 // Flat functions over `viterbi`: the bare searches. Each answers a number of document 01, or 0 with its result.
-ghost use Rattle.std.specs.Prelude.{◌≡◌, length};
+ghost use Rattle.std.specs.Prelude.{false, ◌≡◌, length};
 ghost use Rattle.bits.specs.Bits.{bits};
 ghost use Rattle.trellis.specs.Search.{Found, FoundFirst};
 ghost use Rattle.trellis.specs.Words.{OfLength, Terminated};
 ghost use Rattle.viterbi.specs.Hard.{free_weight, weight};
-ghost use Rattle.flat_coding.specs.FlatSearch.{SearchAnswer, search_arguments, pair_arguments, no_search};
+ghost use Rattle.flat_coding.specs.FlatSearch.{SearchAnswer, found_search, no_search, pair_arguments, search_arguments};
 
-use crate::calls::not_written;
+use crate::calls::Written;
 use bits::Refusal;
-use bits::arguments::{Arguments, exact, first_refusal, then_bits};
+use bits::arguments::{binary, exact};
+use trellis::Outcome;
 
 // expected and actual are those of a refusal for length.
 #[repr(C)]
-#[derive(Clone, Copy)]
+#[derive(Clone, Copy, Debug, PartialEq, Eq)]
 pub struct Search {
     pub refusal: u8,
     pub expected: usize,
@@ -21,77 +22,74 @@ pub struct Search {
     pub tie: bool,
 }
 
+impl From<Refusal> for Search {
+    ghost from_gives = { λ why r. r ≡ no_search why };
+
+    fn from(why: Refusal) -> Search {
+        let numbers = Written::from(why);
+        Search {
+            refusal: numbers.refusal,
+            expected: numbers.expected,
+            actual: numbers.actual,
+            metric: 0,
+            tie: false,
+        }
+    }
+}
+
+impl From<Outcome> for Search {
+    ghost from_gives = { λ found r. r ≡ found_search found };
+
+    fn from(found: Outcome) -> Search {
+        Search {
+            refusal: 0,
+            expected: 0,
+            actual: 0,
+            metric: found.metric,
+            tie: found.tie,
+        }
+    }
+}
+
 // Whether a received block can be searched into a word of so many bits.
-fn search_refusal(coded: &[u8], steps: usize) -> Arguments
+fn search_arguments(coded: &[u8], steps: usize) -> Result<(), Refusal>
     ensures { result ≡ search_arguments coded.now steps }
 {
     let given = coded.len();
-    let block = pairs(given);
-    let lengths = first_refusal(block, exact(given / 2, steps));
-    then_bits(lengths, coded)
+    pairs(given)?;
+    exact(given / 2, steps)?;
+    binary(coded)
 }
 
 // Refused where a length is no number of pairs from 5 to 130.
-fn pairs(given: usize) -> Arguments
+#[tactic(auto, unfolding(crate::specs::FlatSearch::pair_arguments))]
+fn pairs(given: usize) -> Result<(), Refusal>
     ensures { result ≡ pair_arguments given }
 {
-    if given < 10 {
+    if given < 10 || 260 < given || given % 2 == 1 {
         return exact(260, given);
     }
-    if 260 < given {
-        return exact(260, given);
-    }
-    if given % 2 == 1 {
-        return exact(260, given);
-    }
-    Arguments::Passed
-}
-
-fn no_search(why: Refusal) -> Search
-    ensures { result ≡ no_search why }
-{
-    let numbers = not_written(why);
-    Search {
-        refusal: numbers.refusal,
-        expected: numbers.expected,
-        actual: numbers.actual,
-        metric: 0,
-        tie: false,
-    }
+    Ok(())
 }
 
 // The nearest word that ends in five zeros, from state 0, and its disagreements: the bare search of DCCH.
+#[tactic(auto, using(crate::proofs::Searches::passed))]
 pub fn terminated(coded: &[u8], word: &mut [u8]) -> Search
     ensures { SearchAnswer (FoundFirst (Terminated (length word.old)) (weight (bits coded.now))) coded.now word.old word.new result }
 {
-    let ready = search_refusal(coded, word.len());
-    if let Arguments::Refused(why) = ready {
-        return no_search(why);
-    }
-    let found = viterbi::terminated(coded, word);
-    Search {
-        refusal: 0,
-        expected: 0,
-        actual: 0,
-        metric: found.metric,
-        tie: found.tie,
+    match search_arguments(coded, word.len()) {
+        Ok(()) => Search::from(viterbi::terminated(coded, word)),
+        Err(why) => Search::from(why),
     }
 }
 
 // A nearest word over all 32 starting memories: the bare search of SACCH.
+#[tactic(auto, using(crate::proofs::Searches::passed))]
 pub fn free(coded: &[u8], word: &mut [u8]) -> Search
     ensures { SearchAnswer (Found (OfLength (length word.old)) (free_weight (bits coded.now))) coded.now word.old word.new result }
 {
-    let ready = search_refusal(coded, word.len());
-    if let Arguments::Refused(why) = ready {
-        return no_search(why);
-    }
-    let found = viterbi::free(coded, word);
-    Search {
-        refusal: 0,
-        expected: 0,
-        actual: 0,
-        metric: found.metric,
-        tie: found.tie,
+    match search_arguments(coded, word.len()) {
+        Ok(()) => Search::from(viterbi::free(coded, word)),
+        Err(why) => Search::from(why),
     }
 }

@@ -1,14 +1,12 @@
 // What a call that writes bits answers, as a flat record: 0, or a number of document 01.
 ghost use Rattle.std.specs.Prelude.{◌≡◌};
-ghost use Rattle.bits.specs.Calls.{wrote_answer};
 ghost use Rattle.flat_coding.specs.Calls.{flat_wrote, not_written};
 
-use bits::refusals::{actual, expected, number};
-use bits::{Refusal, Wrote};
+use bits::Refusal;
 
 // expected and actual are those of a refusal for length.
 #[repr(C)]
-#[derive(Clone, Copy)]
+#[derive(Clone, Copy, Debug, PartialEq, Eq)]
 pub struct Written {
     pub refusal: u8,
     pub expected: usize,
@@ -16,25 +14,29 @@ pub struct Written {
 }
 
 // A refusal as numbers. The flat records of calls that answer more take theirs from it.
-pub fn not_written(why: Refusal) -> Written
-    ensures { result ≡ not_written why }
-{
-    Written {
-        refusal: number(why),
-        expected: expected(why),
-        actual: actual(why),
+impl From<Refusal> for Written {
+    ghost from_gives = { λ why r. r ≡ not_written why };
+
+    fn from(why: Refusal) -> Written {
+        Written {
+            refusal: u8::from(why),
+            expected: why.expected(),
+            actual: why.actual(),
+        }
     }
 }
 
-pub fn flat_wrote(answer: Wrote) -> Written
-    ensures { result ≡ flat_wrote (wrote_answer answer) }
-{
-    match answer {
-        Wrote::Done => Written {
-            refusal: 0,
-            expected: 0,
-            actual: 0,
-        },
-        Wrote::Refused(why) => not_written(why),
+impl From<Result<(), Refusal>> for Written {
+    ghost from_gives = { λ answer r. r ≡ flat_wrote answer };
+
+    fn from(answer: Result<(), Refusal>) -> Written {
+        match answer {
+            Ok(()) => Written {
+                refusal: 0,
+                expected: 0,
+                actual: 0,
+            },
+            Err(why) => Written::from(why),
+        }
     }
 }

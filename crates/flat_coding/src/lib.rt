@@ -4,20 +4,16 @@
 pub mod bare_search;
 pub mod calls;
 
-ghost use Rattle.std.specs.Prelude.{◌≡◌};
+ghost use Rattle.std.specs.Prelude.{◌≡◌, ◌≤◌, ◌<◌};
 ghost use Rattle.bits.specs.Bits.{bits};
-ghost use Rattle.checksums.specs.Checksums.{answer_for_bits, answer_of, checksum7_of, checksum_from};
-ghost use Rattle.coding.specs.Codes.{acelp, dcch, facch};
-ghost use Rattle.coding.specs.Registers.{memory_high, memory_low};
-ghost use Rattle.flat_coding.specs.Flat.{StepAnswer, flat_checksum, no_step, step_arguments};
+ghost use Rattle.checksums.specs.Checksums.{answer_for_bits, checksum7_of, checksum_from};
+ghost use Rattle.flat_coding.specs.Flat.{StepAnswer, Taken, flat_checksum, no_step, step_arguments};
 
 use bits::Refusal;
-use bits::arguments::Arguments;
-use bits::refusals::number;
-use checksums::Checked;
+use coding::Code;
 
 #[repr(C)]
-#[derive(Clone, Copy)]
+#[derive(Clone, Copy, Debug, PartialEq, Eq)]
 pub struct Step {
     pub refusal: u8,
     pub next: u8,
@@ -25,62 +21,60 @@ pub struct Step {
 }
 
 #[repr(C)]
-#[derive(Clone, Copy)]
+#[derive(Clone, Copy, Debug, PartialEq, Eq)]
 pub struct Checksum {
     pub refusal: u8,
     pub value: u16,
 }
 
+impl From<Refusal> for Step {
+    ghost from_gives = { λ why r. r ≡ no_step why };
+
+    fn from(why: Refusal) -> Step {
+        Step {
+            refusal: u8::from(why),
+            next: 0,
+            output: [0; 4],
+        }
+    }
+}
+
+impl From<Result<u16, Refusal>> for Checksum {
+    ghost from_gives = { λ answer r. r ≡ flat_checksum answer };
+
+    fn from(answer: Result<u16, Refusal>) -> Checksum {
+        match answer {
+            Ok(value) => Checksum { refusal: 0, value },
+            Err(why) => Checksum {
+                refusal: u8::from(why),
+                value: 0,
+            },
+        }
+    }
+}
+
 // Whether there is such a state and such an input.
-fn step_refusal(state: u8, input: u8) -> Arguments
+#[tactic(auto, unfolding(crate::specs::Flat::step_arguments))]
+fn step_arguments(state: u8, input: u8) -> Result<(), Refusal>
     ensures { result ≡ step_arguments state input }
 {
     if 31 < state {
-        return Arguments::Refused(Refusal::State);
+        return Err(Refusal::State);
     }
     if 1 < input {
-        return Arguments::Refused(Refusal::Symbol);
+        return Err(Refusal::Symbol);
     }
-    Arguments::Passed
+    Ok(())
 }
 
-fn no_step(why: Refusal) -> Step
-    ensures { result ≡ no_step why }
+// A step that is taken: the output bits, then zeros.
+fn taken<C: Code<N>, const N: usize>(state: u8, input: u8) -> Step
+    requires { (N ≤ 4) × (state < 32) × (input < 2) }
+    ensures { Taken C.code C.memory state input result }
 {
-    Step {
-        refusal: number(why),
-        next: 0,
-        output: [0; 4],
-    }
-}
-
-// One step of the code of DCCH, SACCH and VSELP.
-pub fn dcch_transition(state: u8, input: u8) -> Step
-    ensures { StepAnswer dcch memory_high state input result }
-{
-    let ready = step_refusal(state, input);
-    if let Arguments::Refused(why) = ready {
-        return no_step(why);
-    }
-    let step = coding::dcch::transition(state, input);
-    let output = step.output;
-    Step {
-        refusal: 0,
-        next: step.next,
-        output: [output[0], output[1], 0, 0],
-    }
-}
-
-// One step of the code of FACCH.
-pub fn facch_transition(state: u8, input: u8) -> Step
-    ensures { StepAnswer facch memory_high state input result }
-{
-    let ready = step_refusal(state, input);
-    if let Arguments::Refused(why) = ready {
-        return no_step(why);
-    }
-    let step = coding::facch::transition(state, input);
-    let output = step.output;
+    let step = C::transition(state, input);
+    let mut output = [0u8; 4];
+    output[..N].copy_from_slice(&step.output);
     Step {
         refusal: 0,
         next: step.next,
@@ -88,32 +82,15 @@ pub fn facch_transition(state: u8, input: u8) -> Step
     }
 }
 
-// One step of the code of ACELP CC1.
-pub fn acelp_transition(state: u8, input: u8) -> Step
-    ensures { StepAnswer acelp memory_low state input result }
+// One step of a code.
+#[tactic(auto, using(crate::proofs::Steps::passed_step))]
+pub fn transition<C: Code<N>, const N: usize>(state: u8, input: u8) -> Step
+    requires { N ≤ 4 }
+    ensures { StepAnswer C.code C.memory state input result }
 {
-    let ready = step_refusal(state, input);
-    if let Arguments::Refused(why) = ready {
-        return no_step(why);
-    }
-    let step = coding::acelp::transition(state, input);
-    let output = step.output;
-    Step {
-        refusal: 0,
-        next: step.next,
-        output: [output[0], output[1], 0, 0],
-    }
-}
-
-pub fn flat_checksum(checked: Checked) -> Checksum
-    ensures { result ≡ flat_checksum (answer_of checked) }
-{
-    match checked {
-        Checked::Value(value) => Checksum { refusal: 0, value },
-        Checked::Refused(why) => Checksum {
-            refusal: number(why),
-            value: 0,
-        },
+    match step_arguments(state, input) {
+        Ok(()) => taken::<C, N>(state, input),
+        Err(why) => Step::from(why),
     }
 }
 
@@ -121,12 +98,12 @@ pub fn flat_checksum(checked: Checked) -> Checksum
 pub fn checksum_from(register: u16, information: &[u8]) -> Checksum
     ensures { result ≡ flat_checksum (answer_for_bits information.now (checksum_from register (bits information.now))) }
 {
-    flat_checksum(checksums::checksum_from(register, information))
+    Checksum::from(checksums::checksum_from(register, information))
 }
 
 // The 7-bit checksum of a speech frame's information.
 pub fn checksum7(information: &[u8]) -> Checksum
     ensures { result ≡ flat_checksum (answer_for_bits information.now (checksum7_of (bits information.now))) }
 {
-    flat_checksum(checksums::checksum7(information))
+    Checksum::from(checksums::checksum7(information))
 }

@@ -2,51 +2,43 @@
 #![tactic(auto)]
 
 ghost use Rattle.std.specs.Prelude.{◌≡◌};
-ghost use Rattle.bits.specs.Refusals.{refused};
-ghost use Rattle.facch.specs.Decoding.{decode_answer, decode_arguments, decoding, erased_arguments};
+ghost use Rattle.facch.specs.Decoding.{decode_arguments, decoding, erased_arguments};
 ghost use Rattle.facch_interleaver.specs.Wire.{Deinterleaving, Interleaving, Observing};
 ghost use Rattle.facch.specs.Words.{Encoding};
-ghost use Rattle.facch_interleaver.specs.declared.WordHalf.TheVariants.{End, Start};
 ghost use Rattle.flat_coding.specs.Calls.{FlatWrote};
-ghost use Rattle.flat_facch.specs.Words.{flat_content};
+ghost use Rattle.flat_facch.specs.Words.{flat_content, no_word};
 
 use bits::Refusal;
-use facch::{Decoded, WordHalf};
-use flat_coding::calls::{Written, flat_wrote, not_written};
+use facch::{FacchWord, WordHalf};
+use flat_coding::calls::Written;
 
 pub fn encode(continuation: bool, message: u64, dvcc: u8, coded: &mut [u8]) -> Written
     ensures { FlatWrote (Encoding continuation message dvcc coded.old coded.new) result }
 {
-    flat_wrote(facch::encode(continuation, message, dvcc, coded))
+    Written::from(facch::encode(continuation, message, dvcc, coded))
 }
 
 pub fn interleave(previous: &[u8], current: &[u8], slot: &mut [u8]) -> Written
     ensures { FlatWrote (Interleaving previous.now current.now slot.old slot.new) result }
 {
-    flat_wrote(facch::interleave(previous, current, slot))
+    Written::from(facch::interleave(previous, current, slot))
 }
 
 pub fn deinterleave(first: &[u8], second: &[u8], coded: &mut [u8]) -> Written
     ensures { FlatWrote (Deinterleaving first.now second.now coded.old coded.new) result }
 {
-    flat_wrote(facch::deinterleave(first, second, coded))
+    Written::from(facch::deinterleave(first, second, coded))
 }
 
-pub fn observe_start(slot: &[u8], coded: &mut [u8]) -> Written
-    ensures { FlatWrote (Observing slot.now Start coded.old coded.new) result }
+pub fn observe_half(slot: &[u8], half: WordHalf, coded: &mut [u8]) -> Written
+    ensures { FlatWrote (Observing slot.now half coded.old coded.new) result }
 {
-    flat_wrote(facch::observe_half(slot, WordHalf::Start, coded))
-}
-
-pub fn observe_end(slot: &[u8], coded: &mut [u8]) -> Written
-    ensures { FlatWrote (Observing slot.now End coded.old coded.new) result }
-{
-    flat_wrote(facch::observe_half(slot, WordHalf::End, coded))
+    Written::from(facch::observe_half(slot, half, coded))
 }
 
 // What is beside the refusal is that of an accepted word; expected and actual are those of a refusal for length.
 #[repr(C)]
-#[derive(Clone, Copy)]
+#[derive(Clone, Copy, Debug, PartialEq, Eq)]
 pub struct Word {
     pub refusal: u8,
     pub expected: usize,
@@ -57,51 +49,50 @@ pub struct Word {
     pub observed: u16,
 }
 
-fn no_word(why: Refusal) -> Word
-    ensures { result ≡ flat_content (refused why) }
-{
-    let numbers = not_written(why);
-    Word {
-        refusal: numbers.refusal,
-        expected: numbers.expected,
-        actual: numbers.actual,
-        continuation: false,
-        message: 0,
-        corrected: 0,
-        observed: 0,
+impl From<Refusal> for Word {
+    ghost from_gives = { λ why r. r ≡ no_word why };
+
+    fn from(why: Refusal) -> Word {
+        let numbers = Written::from(why);
+        Word {
+            refusal: numbers.refusal,
+            expected: numbers.expected,
+            actual: numbers.actual,
+            continuation: false,
+            message: 0,
+            corrected: 0,
+            observed: 0,
+        }
     }
 }
 
-fn flat_decoded(answer: Decoded) -> Word
-    ensures { result ≡ flat_content (decode_answer answer) }
-{
-    match answer {
-        Decoded::Accepted {
-            continuation,
-            message,
-            corrected,
-            observed,
-        } => Word {
-            refusal: 0,
-            expected: 0,
-            actual: 0,
-            continuation,
-            message,
-            corrected,
-            observed,
-        },
-        Decoded::Refused(why) => no_word(why),
+impl From<Result<FacchWord, Refusal>> for Word {
+    ghost from_gives = { λ answer r. r ≡ flat_content answer };
+
+    fn from(answer: Result<FacchWord, Refusal>) -> Word {
+        match answer {
+            Ok(word) => Word {
+                refusal: 0,
+                expected: 0,
+                actual: 0,
+                continuation: word.continuation,
+                message: word.message,
+                corrected: word.corrected,
+                observed: word.observed,
+            },
+            Err(why) => Word::from(why),
+        }
     }
 }
 
 pub fn decode(coded: &[u8], dvcc: u8) -> Word
     ensures { result ≡ flat_content (decoding (decode_arguments coded.now) coded.now dvcc) }
 {
-    flat_decoded(facch::decode(coded, dvcc))
+    Word::from(facch::decode(coded, dvcc))
 }
 
 pub fn decode_erased(coded: &[u8], dvcc: u8) -> Word
     ensures { result ≡ flat_content (decoding (erased_arguments coded.now) coded.now dvcc) }
 {
-    flat_decoded(facch::decode_erased(coded, dvcc))
+    Word::from(facch::decode_erased(coded, dvcc))
 }

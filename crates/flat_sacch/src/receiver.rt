@@ -1,16 +1,16 @@
 // The receiver as a flat record, and its pushes.
 ghost use Rattle.std.specs.Prelude.{◌≡◌};
-ghost use Rattle.sacch_receiver.specs.Receiver.{fresh_receiver, heard_answer, outcome_answer, push_of, push_word_of};
-ghost use Rattle.flat_sacch.specs.Flat.{flat_answer, flat_moved, flat_receiver, lock_byte, lock_of, no_word_pushed, receiver_of};
+ghost use Rattle.sacch_receiver.specs.Receiver.{fresh_receiver, push_of, push_word_of};
+ghost use Rattle.flat_sacch.specs.Flat.{flat_answer, flat_moved, flat_moved_word, flat_receiver, flat_word_answer, lock_byte, lock_of, no_word_pushed, receiver_of, word_pushed};
 
-use bits::refusals::number;
-use sacch::{Heard, Lock, ReceiveOutcome, SacchReceiver};
+use bits::Refusal;
+use sacch::{ReceiveOutcome, SacchDeinterleaver, SacchReceiver, SacchWord};
 
 // No phase is locked.
 const UNLOCKED: u8 = 255;
 
 #[repr(C)]
-#[derive(Clone, Copy)]
+#[derive(Clone, Copy, Debug, PartialEq, Eq)]
 pub struct Receiver {
     pub fields: [u16; 12],
     pub field_cursor: usize,
@@ -25,7 +25,7 @@ pub struct Receiver {
 
 // An answer of a push and the receiver after it: kind 0 is Pending, 1 a word, 2 a rejection, 3 a refusal. Refusal is the number of the last two.
 #[repr(C)]
-#[derive(Clone, Copy)]
+#[derive(Clone, Copy, Debug, PartialEq, Eq)]
 pub struct Pushed {
     pub kind: u8,
     pub refusal: u8,
@@ -36,73 +36,90 @@ pub struct Pushed {
     pub receiver: Receiver,
 }
 
-fn to_lock(lock: u8) -> Lock
+#[tactic(auto, unfolding(crate::specs::Flat::lock_of))]
+fn locked_phase(lock: u8) -> Option<u8>
     ensures { result ≡ lock_of lock }
 {
-    if lock == UNLOCKED {
-        return Lock::Unlocked;
-    }
-    Lock::Locked(lock)
+    (lock != UNLOCKED).then_some(lock)
 }
 
-fn from_lock(lock: Lock) -> u8
-    ensures { result ≡ lock_byte lock }
-{
-    match lock {
-        Lock::Unlocked => UNLOCKED,
-        Lock::Locked(phase) => phase,
+impl From<Receiver> for SacchReceiver {
+    ghost from_gives = { λ r s. s ≡ receiver_of r };
+
+    #[tactic(auto, unfolding(crate::specs::Flat::receiver_of))]
+    fn from(r: Receiver) -> SacchReceiver {
+        let Receiver {
+            fields,
+            field_cursor: cursor,
+            received,
+            rows,
+            row_cursor,
+            available,
+            phase,
+            lock,
+        } = r;
+        let deinterleaver = SacchDeinterleaver {
+            fields,
+            cursor,
+            received,
+        };
+        SacchReceiver {
+            deinterleaver,
+            rows,
+            row_cursor,
+            available,
+            phase,
+            locked_phase: locked_phase(lock),
+        }
     }
 }
 
-fn to_receiver(r: Receiver) -> SacchReceiver
-    ensures { result ≡ receiver_of r }
-{
-    let fields = r.fields;
-    let rows = r.rows;
-    SacchReceiver {
-        fields,
-        field_cursor: r.field_cursor,
-        received: r.received,
-        rows,
-        row_cursor: r.row_cursor,
-        available: r.available,
-        phase: r.phase,
-        lock: to_lock(r.lock),
-    }
-}
+impl From<SacchReceiver> for Receiver {
+    ghost from_gives = { λ s r. r ≡ flat_receiver s };
 
-fn from_receiver(s: SacchReceiver) -> Receiver
-    ensures { result ≡ flat_receiver s }
-{
-    let fields = s.fields;
-    let rows = s.rows;
-    let lock = s.lock;
-    Receiver {
-        fields,
-        field_cursor: s.field_cursor,
-        received: s.received,
-        rows,
-        row_cursor: s.row_cursor,
-        available: s.available,
-        phase: s.phase,
-        lock: from_lock(lock),
+    #[tactic(auto, unfolding(crate::specs::Flat::flat_receiver))]
+    fn from(s: SacchReceiver) -> Receiver {
+        let SacchReceiver {
+            deinterleaver,
+            rows,
+            row_cursor,
+            available,
+            phase,
+            locked_phase,
+        } = s;
+        let SacchDeinterleaver {
+            fields,
+            cursor: field_cursor,
+            received,
+        } = deinterleaver;
+        Receiver {
+            fields,
+            field_cursor,
+            received,
+            rows,
+            row_cursor,
+            available,
+            phase,
+            lock: locked_phase.unwrap_or(UNLOCKED),
+        }
     }
 }
 
 pub fn new_receiver() -> Receiver
     ensures { result ≡ flat_receiver fresh_receiver }
 {
-    from_receiver(SacchReceiver::new())
+    Receiver::from(SacchReceiver::new())
 }
 
 pub fn discontinuity(receiver: Receiver) -> Receiver
     ensures { result ≡ flat_receiver fresh_receiver }
 {
-    let before = to_receiver(receiver);
-    from_receiver(before.discontinuity())
+    let mut lent = SacchReceiver::from(receiver);
+    lent.discontinuity();
+    Receiver::from(lent)
 }
 
-fn nothing(kind: u8, refusal: u8, receiver: Receiver) -> Pushed
+fn without_word(kind: u8, refusal: u8, receiver: Receiver) -> Pushed
     ensures { result ≡ no_word_pushed kind refusal receiver }
 {
     Pushed {
@@ -116,32 +133,38 @@ fn nothing(kind: u8, refusal: u8, receiver: Receiver) -> Pushed
     }
 }
 
-fn flat_outcome(outcome: ReceiveOutcome, receiver: Receiver) -> Pushed
-    ensures { result ≡ flat_answer (outcome_answer outcome) receiver }
+fn with_word(word: SacchWord, receiver: Receiver) -> Pushed
+    ensures { result ≡ word_pushed word receiver }
 {
-    match outcome {
-        ReceiveOutcome::Pending => nothing(0, 0, receiver),
-        ReceiveOutcome::Word(word) => Pushed {
-            kind: 1,
-            refusal: 0,
-            continuation: word.continuation,
-            message: word.message,
-            corrected: word.corrected,
-            ending: word.ending,
-            receiver,
-        },
-        ReceiveOutcome::Rejected(why) => nothing(2, number(why), receiver),
-        ReceiveOutcome::Refused(why) => nothing(3, number(why), receiver),
+    Pushed {
+        kind: 1,
+        refusal: 0,
+        continuation: word.continuation,
+        message: word.message,
+        corrected: word.corrected,
+        ending: word.ending,
+        receiver,
     }
 }
 
-fn outcome_of(heard: Heard) -> ReceiveOutcome
-    ensures { outcome_answer result ≡ heard_answer heard }
+fn flat_answer(outcome: Result<ReceiveOutcome, Refusal>, receiver: Receiver) -> Pushed
+    ensures { result ≡ flat_answer outcome receiver }
+{
+    match outcome {
+        Ok(ReceiveOutcome::Pending) => without_word(0, 0, receiver),
+        Ok(ReceiveOutcome::Word(word)) => with_word(word, receiver),
+        Ok(ReceiveOutcome::Rejected(why)) => without_word(2, u8::from(why), receiver),
+        Err(why) => without_word(3, u8::from(why), receiver),
+    }
+}
+
+fn flat_word_answer(heard: Result<Option<SacchWord>, Refusal>, receiver: Receiver) -> Pushed
+    ensures { result ≡ flat_word_answer heard receiver }
 {
     match heard {
-        Heard::Nothing => ReceiveOutcome::Pending,
-        Heard::Word(word) => ReceiveOutcome::Word(word),
-        Heard::Refused(why) => ReceiveOutcome::Refused(why),
+        Ok(None) => without_word(0, 0, receiver),
+        Ok(Some(word)) => with_word(word, receiver),
+        Err(why) => without_word(3, u8::from(why), receiver),
     }
 }
 
@@ -149,21 +172,16 @@ fn outcome_of(heard: Heard) -> ReceiveOutcome
 pub fn push_by_value(receiver: Receiver, field: u16, dvcc: u8) -> Pushed
     ensures { result ≡ flat_moved (push_of (receiver_of receiver) field dvcc) }
 {
-    let before = to_receiver(receiver);
-    let pushed = before.pushed(field, dvcc);
-    let outcome = pushed.outcome;
-    let after = pushed.receiver;
-    flat_outcome(outcome, from_receiver(after))
+    let mut lent = SacchReceiver::from(receiver);
+    let outcome = lent.push_outcome(field, dvcc);
+    flat_answer(outcome, Receiver::from(lent))
 }
 
 // The push that answers a word or nothing.
 pub fn push(receiver: Receiver, field: u16, dvcc: u8) -> Pushed
-    ensures { result ≡ flat_moved (push_word_of (receiver_of receiver) field dvcc) }
+    ensures { result ≡ flat_moved_word (push_word_of (receiver_of receiver) field dvcc) }
 {
-    let before = to_receiver(receiver);
-    let pushed = before.push(field, dvcc);
-    let heard = pushed.heard;
-    let after = pushed.receiver;
-    let outcome = outcome_of(heard);
-    flat_outcome(outcome, from_receiver(after))
+    let mut lent = SacchReceiver::from(receiver);
+    let heard = lent.push(field, dvcc);
+    flat_word_answer(heard, Receiver::from(lent))
 }

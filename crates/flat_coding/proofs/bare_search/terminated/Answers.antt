@@ -1,13 +1,16 @@
--- `flat_coding::bare_search::terminated` meets its contract: a refusal, or what the search finds. Assumes nothing.
-use mathlib.Core.Path.{sym, ◌∙◌}
-use Rattle.flat_coding.proofs.Searches.{passed, by_refusal, by_search}
+-- `flat_coding::bare_search::terminated` meets its contract where it searches. Assumes nothing.
+use mathlib.Core.Path.{sym, subst}
+use lib.ListN.{length}
+use Rattle.bits.specs.Bits.{bits}
+use Rattle.trellis.specs.Search.{FoundFirst}
+use Rattle.trellis.specs.Words.{Terminated}
+use Rattle.viterbi.specs.Hard.{weight}
+use Rattle.flat_coding.specs.FlatSearch.{SearchAnswer}
+use Rattle.flat_coding.proofs.Searches.{by_search}
 use Rattle.flat_coding.proofs.bare_search.terminated.Goals as goal
 
-pub returns-in-Refused : goal.returns-in-Refused
-returns-in-Refused c = by_refusal c.search_refusal-ready.ensures _ c.in-Refused.is c.no_search.ensures
-
-pub terminated-found-requires : goal.terminated-found-requires
-terminated-found-requires c = passed _ _ (sym c.search_refusal-ready.ensures ∙ c.in_default.is)
-
-pub returns : goal.returns
-returns c = by_search c.search_refusal-ready.ensures c.in_default.is c.terminated-found.ensures
+pub returns-in-Ok : goal.returns-in-Ok
+returns-in-Ok c =
+    let a = c.args in
+    subst (SearchAnswer (FoundFirst (Terminated (length a.word.now)) (weight (bits a.coded.now))) a.coded.now a.word.now c.terminated.new.word) (sym c.from.ensures)
+    (by_search c.search_arguments.ensures c.in-Ok.is c.terminated.ensures)

@@ -1,16 +1,12 @@
--- `flat_sacch::receiver::push` meets its contract. Assumes nothing.
+-- `flat_sacch::receiver::push` meets its contract: the call's answer and the receiver after it, made flat. Assumes nothing.
 use Rattle.sacch_receiver.specs.Receiver.{push_word_of}
 use Rattle.sacch_receiver.specs.declared.SacchReceiver.{SacchReceiver}
-use Rattle.flat_sacch.proofs.Flattened.{flat_moved_lem}
-use Rattle.flat_sacch.proofs.receiver.flat_outcome.Reads as flat-outcome-reads
-use Rattle.flat_sacch.proofs.receiver.from_receiver.Reads as from-receiver-reads
-use Rattle.flat_sacch.proofs.receiver.outcome_of.Reads as outcome-of-reads
-use Rattle.flat_sacch.proofs.receiver.to_receiver.Reads as to-receiver-reads
-use Rattle.sacch_receiver.proofs.SacchReceiver.push.Reads as push-reads
+use Rattle.flat_sacch.specs.Flat.{flat_word_answer, flat_moved_word}
+use Rattle.flat_sacch.proofs.Flattened.{flat_call}
 use Rattle.flat_sacch.proofs.receiver.push.Goals as goal
 
 pub returns : goal.returns
+unfolding flat_moved_word
 returns c =
-    flat_moved_lem (λ (s : SacchReceiver). push_word_of s c.args.field c.args.dvcc) _ _ _ _ _ _ _
-    c.to_receiver-before.ensures c.push-pushed.ensures c.outcome_of-outcome.ensures
-    c.from_receiver.ensures c.flat_outcome.ensures
+    flat_call flat_word_answer (λ (r : SacchReceiver). push_word_of r c.args.field c.args.dvcc) c.from-lent.ensures c.push-heard.ensures.answer c.push-heard.ensures.moved
+    c.from.ensures c.flat_word_answer.ensures
