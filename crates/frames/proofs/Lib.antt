@@ -1,3 +1,2 @@
 -- The laws.
-pub mod Deciding
 pub mod Turning

@@ -4,23 +4,21 @@
 
 mod streams;
 
-ghost use Rattle.std.specs.Prelude.{◌≡◌, length, replicate};
-ghost use Rattle.session.specs.Sessions.{SessionFits};
+ghost use Rattle.std.specs.Prelude.{◌≡◌};
+ghost use Rattle.session.specs.Sessions.{at_start};
 ghost use Rattle.frames.specs.Turns.{Answered, Concluded, Listened, Ran};
 
-use crate::streams::{
-    Got, Next, STDIN_FILENO, STDOUT_FILENO, Sent, Streams, decide, goes_on, nothing_sent,
-    read_once, standard_streams, tell_failure, tell_left, write_first,
-};
-use session::pieces::feed;
-use session::{Session, finish, start};
+use crate::streams::{Got, Next, Sent, Stream, Streams, decide};
+use session::Session;
+use text::buffer::Buffer;
 
 // One read, and the write of its answers.
 #[derive(Clone, Copy)]
 struct Turn {
-    session: Session,
     got: Got,
     sent: Sent,
+    // How many lines may still be read.
+    left: u32,
     next: Next,
 }
 
@@ -28,127 +26,92 @@ struct Turn {
 #[derive(Clone, Copy)]
 struct Outcome {
     last: Turn,
-    totals: Sent,
+    totals: Option<Sent>,
     // The messages on standard error.
-    failure: Sent,
-    left: Sent,
+    failure: Option<Sent>,
+    left: Option<Sent>,
 }
 
-fn input_buffer() -> [u8; 16384]
-    ensures { 16384 ≡ length result }
-{
-    [0; 16384]
-}
-
-// 25 bytes for each byte of the input buffer: room for every answer.
-fn output_buffer() -> [u8; 409600]
-    ensures { 409600 ≡ length result }
-{
-    [0; 409600]
-}
-
-// Reads once, and writes what the bytes are answered.
-fn answer_piece(
+// What a run holds from one turn to the next.
+#[derive(Drop)]
+struct Run {
     streams: Streams,
     session: Session,
-    piece: &mut [u8],
-    line: &mut [u8],
-    counts: &mut [u32],
-    out: &mut [u8],
-) -> Turn
-    requires { SessionFits session line.old counts.old × (16384 ≡ length piece.old) × (409600 ≡ length out.old) }
-    ensures answered { Answered session piece.new line.old line.new counts.old counts.new out.old out.new result }
-    ensures value { (16384 ≡ length piece.new) × (409600 ≡ length out.new) }
-{
-    let got = read_once(streams, STDIN_FILENO, piece);
-    let n = got.bytes;
-    let fed = feed(session, &piece[..n], line, counts, out);
-    let after = fed.session;
-    let sent = write_first(streams, STDOUT_FILENO, out, fed.at);
-    Turn {
-        session: after,
-        got,
-        sent,
-        next: decide(got, sent, after.left),
-    }
+    piece: [u8; 16384],
+    // 25 bytes for each byte of the piece: room for every answer.
+    page: Buffer<409600>,
 }
 
-// Turns until there is no more to read. Nothing says that an input ends, so they are counted.
-fn listen(
-    streams: Streams,
-    piece: &mut [u8],
-    line: &mut [u8],
-    counts: &mut [u32],
-    out: &mut [u8],
-) -> Turn
-    requires { (length line.old ≡ 137) × (counts.old ≡ replicate 256 0) × (16384 ≡ length piece.old) × (409600 ≡ length out.old) }
-    ensures { Listened result line.new counts.new × (409600 ≡ length out.new) }
-{
-    let mut last = answer_piece(streams, start(), piece, line, counts, out);
-    let mut turns = u64::MAX;
-    while turns > 0 {
-        let next = last.next;
-        if !goes_on(next) {
-            return last;
+impl Run {
+    // Reads once, and writes what the bytes are answered.
+    fn answer_piece(&mut self) -> Turn
+        ensures { Answered self.old.session self.new.piece self.new.session self.new.page result }
+    {
+        let got = self.streams.read_once(Stream::Input, &mut self.piece);
+        let n = got.count();
+        self.session.feed(&self.piece[..n], &mut self.page);
+        let answers = self.page.as_slice();
+        let sent = self.streams.write_once(Stream::Output, answers);
+        let left = self.session.left();
+        Turn {
+            got,
+            sent,
+            left,
+            next: decide(got, sent, left),
         }
-        turns -= 1;
-        let session = last.session;
-        last = answer_piece(streams, session, piece, line, counts, out);
     }
-    last
-}
 
-// A last line and the totals, where the input was answered to its end.
-fn conclude(streams: Streams, last: Turn, line: &[u8], counts: &mut [u32], out: &mut [u8]) -> Sent
-    requires { SessionFits last.session line.now counts.old × (409600 ≡ length out.old) }
-    ensures { Concluded last.next last.session line.now counts.old out.old out.new result }
-{
-    let next = last.next;
-    match next {
-        Next::Read => nothing_sent(),
-        Next::Finish => {
-            let session = last.session;
-            let end = finish(session, line, counts, out);
-            write_first(streams, STDOUT_FILENO, out, end)
+    // Turns until there is no more to read. Nothing says that an input ends, so they are counted.
+    fn listen(&mut self) -> Turn
+        requires { self.old.session ≡ at_start }
+        ensures { Listened result self.new.session }
+    {
+        let mut last = self.answer_piece();
+        for _turn in 0..u64::MAX {
+            if last.next != Next::Read {
+                return last;
+            }
+            last = self.answer_piece();
         }
-        Next::Fail => nothing_sent(),
+        last
     }
-}
 
-fn run(
-    streams: Streams,
-    piece: &mut [u8],
-    line: &mut [u8],
-    counts: &mut [u32],
-    out: &mut [u8],
-) -> Outcome
-    requires { (length line.old ≡ 137) × (counts.old ≡ replicate 256 0) × (16384 ≡ length piece.old) × (409600 ≡ length out.old) }
-    ensures { Ran out.new result }
-{
-    let last = listen(streams, piece, line, counts, out);
-    let totals = conclude(streams, last, line, counts, out);
-    let next = last.next;
-    let session = last.session;
-    let failure = tell_failure(streams, next, totals);
-    let left = tell_left(streams, session.left);
-    Outcome {
-        last,
-        totals,
-        failure,
-        left,
+    // A last line and the totals, where the input was answered to its end.
+    #[tactic(auto, unfolding(crate::specs::Turns::Concluded))]
+    fn conclude(&mut self, next: Next) -> Option<Sent>
+        ensures { Concluded next self.old.session self.new.page result }
+    {
+        if next != Next::Finish {
+            return None;
+        }
+        self.session.finish(&mut self.page);
+        let totals = self.page.as_slice();
+        Some(self.streams.write_once(Stream::Output, totals))
+    }
+
+    fn run(&mut self) -> Outcome
+        requires { self.old.session ≡ at_start }
+        ensures { Ran self.new.page result }
+    {
+        let last = self.listen();
+        let totals = self.conclude(last.next);
+        let failure = self.streams.tell_failure(last.next, totals);
+        let left = self.streams.tell_left(last.left);
+        Outcome {
+            last,
+            totals,
+            failure,
+            left,
+        }
     }
 }
 
 fn main(rt: HostRuntime) {
-    let mut piece = input_buffer();
-    let mut line = [0u8; 137];
-    let mut counts = [0u32; 256];
-    let mut out = output_buffer();
-    run(
-        standard_streams(&rt),
-        &mut piece,
-        &mut line,
-        &mut counts,
-        &mut out,
-    );
+    let mut run = Run {
+        streams: Streams::new(&rt),
+        session: Session::new(),
+        piece: [0; 16384],
+        page: Buffer::new(),
+    };
+    run.run();
 }

@@ -1,17 +1,18 @@
 // The reads and writes of the standard streams, what they were given and answered, and what comes after them. No contract can say which stream the system reads
-// from or writes to, nor which bytes, so each of the two stands alone in a function (`read_once`, `write_first`) whose answer names what it was given. No other
+// from or writes to, nor which bytes, so each of the two stands alone in a function (`read_once`, `write_once`) whose answer names what it was given. No other
 // file can make one.
-ghost use Rattle.std.specs.Prelude.{◌≡◌, not, ◌≤◌, min, eqb, length};
-ghost use Rattle.frames.specs.Streams.{FirstSent, IsPrefixLen, clamp_len, Message, Received, Told, complete, failure_text, goes_on, left_text, next_of, nothing_sent};
+ghost use Rattle.std.specs.Prelude.{◌≡◌, not, ◌≤◌, eqb, length, IfSome};
+ghost use Rattle.std.specs.Option.{unwrap_or};
+ghost use Rattle.frames.specs.Streams.{FirstSent, Message, Received, Told, complete, failure_text, left_text, next_of};
 
 use std::io::{Read, Stderr, Stdin, Stdout, Write};
 
-// The numbers of the three streams, as the system has them.
-pub const STDIN_FILENO: i32 = 0;
-
-pub const STDOUT_FILENO: i32 = 1;
-
-const STDERR_FILENO: i32 = 2;
+#[derive(Clone, Copy, Debug, PartialEq, Eq)]
+pub enum Stream {
+    Input,
+    Output,
+    Messages,
+}
 
 #[derive(Clone, Copy)]
 pub struct Streams {
@@ -20,189 +21,141 @@ pub struct Streams {
     messages: Stderr,
 }
 
-pub fn standard_streams(rt: &HostRuntime) -> Streams {
-    Streams {
-        input: rt.stdin(),
-        output: rt.stdout(),
-        messages: rt.stderr(),
-    }
-}
-
-// What a read from a descriptor answered: -1, or how many bytes it put at the start of the buffer; and how many of the buffer count as read.
+// What a read from a stream answered: how many bytes it put at the start of the buffer, or that it failed.
 #[derive(Clone, Copy)]
 pub struct Got {
-    from: i32,
-    answer: isize,
-    pub bytes: usize,
+    from: Stream,
+    read: Option<usize>,
 }
 
-// What a descriptor was handed: so many bytes of a buffer, from the first on; and whether it took all of them.
+// What a stream was handed: so many bytes of a text, from the first on; and whether it took all of them.
 #[derive(Clone, Copy)]
 pub struct Sent {
-    to: i32,
+    to: Stream,
     bytes: usize,
     whole: bool,
 }
 
 // What comes after a read and the write of its answers.
-#[derive(Clone, Copy)]
+#[derive(Clone, Copy, Debug, PartialEq, Eq)]
 pub enum Next {
     Read,
     Finish,
     Fail,
 }
 
-// Reads once from the stream of this number: -1 where that fails, as it does where no stream that is read has the number.
-fn read_from(streams: Streams, from: i32, piece: &mut [u8]) -> isize {
-    if from != STDIN_FILENO {
-        return -1;
-    }
-    let mut input = streams.input;
-    match input.read(piece) {
-        Ok(bytes) => bytes as isize,
-        Err(_) => -1,
+impl Got {
+    // How many bytes of the buffer count as read: none where the read failed.
+    pub fn count(self) -> usize
+        ensures { result ≡ unwrap_or self.read 0 }
+    {
+        self.read.unwrap_or(0)
     }
 }
 
-// How many bytes of the buffer count as read.
-fn count(answer: isize, piece: &[u8]) -> usize
-    ensures in_bounds { IsPrefixLen result piece.now }
-    ensures value { result ≡ clamp_len answer (length piece.now) }
-{
-    if answer > 0 {
-        least(answer as usize, piece.len())
-    } else {
-        0
+impl Streams {
+    pub fn new(rt: &HostRuntime) -> Streams {
+        Streams {
+            input: rt.stdin(),
+            output: rt.stdout(),
+            messages: rt.stderr(),
+        }
     }
-}
 
-fn least(a: usize, b: usize) -> usize
-    ensures { result ≡ min a b }
-{
-    if a < b { a } else { b }
-}
-
-pub fn read_once(streams: Streams, from: i32, piece: &mut [u8]) -> Got
-    ensures { Received from piece.new result }
-{
-    let answer = read_from(streams, from, piece);
-    let bytes = count(answer, piece);
-    Got {
-        from,
-        answer,
-        bytes,
+    // Reads once from a stream; it fails where the stream is not one that is read.
+    fn read_from(self, from: Stream, piece: &mut [u8]) -> Option<usize>
+        ensures { IfSome result (λ n. n ≤ length piece.new) }
+    {
+        let mut input = self.input;
+        match from {
+            Stream::Input => input.read(piece).ok(),
+            Stream::Output | Stream::Messages => None,
+        }
     }
-}
 
-// Writes all of the text to the stream of this number, and answers whether that was done; it fails where no stream that is written has the number.
-fn write_to(streams: Streams, to: i32, text: &[u8]) -> bool {
-    if to == STDOUT_FILENO {
-        let mut output = streams.output;
-        return output.write_all(text).is_ok();
+    pub fn read_once(self, from: Stream, piece: &mut [u8]) -> Got
+        ensures { Received from piece.new result }
+    {
+        Got {
+            from,
+            read: self.read_from(from, piece),
+        }
     }
-    if to == STDERR_FILENO {
-        let mut messages = streams.messages;
-        return messages.write_all(text).is_ok();
+
+    // Writes all of the text to a stream, and answers whether that was done; it fails where the stream is not one that is written.
+    fn write_to(self, to: Stream, text: &[u8]) -> bool {
+        let mut output = self.output;
+        let mut messages = self.messages;
+        match to {
+            Stream::Input => false,
+            Stream::Output => output.write_all(text).is_ok(),
+            Stream::Messages => messages.write_all(text).is_ok(),
+        }
     }
-    false
-}
 
-pub fn write_first(streams: Streams, to: i32, buffer: &[u8], bytes: usize) -> Sent
-    requires { bytes ≤ length buffer.now }
-    ensures { FirstSent to bytes result }
-{
-    let whole = write_to(streams, to, &buffer[..bytes]);
-    Sent { to, bytes, whole }
-}
+    pub fn write_once(self, to: Stream, text: &[u8]) -> Sent
+        ensures { FirstSent to (length text.now) result }
+    {
+        Sent {
+            to,
+            bytes: text.len(),
+            whole: self.write_to(to, text),
+        }
+    }
 
-pub fn nothing_sent() -> Sent
-    ensures { result ≡ nothing_sent }
-{
-    Sent {
-        to: 1,
-        bytes: 0,
-        whole: true,
+    // A message to standard error, where there is a cause for it.
+    fn tell(self, cause: bool, text: &[u8]) -> Option<Sent>
+        requires { Message text.now }
+        ensures { Told cause text.now result }
+    {
+        if !cause {
+            return None;
+        }
+        Some(self.write_once(Stream::Messages, text))
+    }
+
+    // What was written stays, and the missing totals show that it is not all.
+    #[tactic(auto, unfolding(crate::specs::Streams::failure_text))]
+    pub fn tell_failure(self, next: Next, totals: Option<Sent>) -> Option<Sent>
+        ensures { Told (not (complete next totals)) failure_text result }
+    {
+        let failed = !is_complete(next, totals);
+        self.tell(
+            failed,
+            b"frames: a read or a write failed; no totals are written\n",
+        )
+    }
+
+    // With a million lines read no more is read.
+    #[tactic(auto, unfolding(crate::specs::Streams::left_text))]
+    pub fn tell_left(self, left: u32) -> Option<Sent>
+        ensures { Told (eqb left 0) left_text result }
+    {
+        self.tell(
+            left == 0,
+            b"frames: a million lines were read; any input after them is left\n",
+        )
     }
 }
 
 // A failed call ends the run; so does the end of the input, and a million lines read.
+#[tactic(auto, unfolding(crate::specs::Streams::next_of))]
 pub fn decide(got: Got, sent: Sent, left: u32) -> Next
-    ensures { result ≡ next_of got.answer sent.whole left }
+    ensures { result ≡ next_of got.read sent.whole left }
 {
-    next_after(got.answer, sent.whole, left)
-}
-
-fn next_after(answer: isize, whole: bool, left: u32) -> Next
-    ensures { result ≡ next_of answer whole left }
-{
-    let failed = answer < 0;
-    if failed {
-        return Next::Fail;
-    }
-    if !whole {
-        return Next::Fail;
-    }
-    if answer == 0 {
-        return Next::Finish;
-    }
-    if left == 0 {
-        return Next::Finish;
-    }
-    Next::Read
-}
-
-pub fn goes_on(next: Next) -> bool
-    ensures { result ≡ goes_on next }
-{
-    match next {
-        Next::Read => true,
-        Next::Finish => false,
-        Next::Fail => false,
+    match got.read {
+        None => Next::Fail,
+        Some(_) if !sent.whole => Next::Fail,
+        Some(0) => Next::Finish,
+        Some(_) if left == 0 => Next::Finish,
+        Some(_) => Next::Read,
     }
 }
 
 // Whether the input was answered to its end, and the totals were written.
-fn is_complete(next: Next, whole: bool) -> bool
-    ensures { result ≡ complete next whole }
+#[tactic(auto, unfolding(crate::specs::Streams::complete))]
+fn is_complete(next: Next, totals: Option<Sent>) -> bool
+    ensures { result ≡ complete next totals }
 {
-    match next {
-        Next::Read => false,
-        Next::Finish => whole,
-        Next::Fail => false,
-    }
-}
-
-// A message to standard error, where there is a cause for it.
-fn tell(streams: Streams, cause: bool, text: &[u8]) -> Sent
-    requires { Message text.now }
-    ensures { Told cause text.now result }
-{
-    if !cause {
-        return nothing_sent();
-    }
-    let n = text.len();
-    write_first(streams, STDERR_FILENO, text, n)
-}
-
-// What was written stays, and the missing totals show that it is not all.
-pub fn tell_failure(streams: Streams, next: Next, totals: Sent) -> Sent
-    ensures { Told (not (complete next totals.whole)) failure_text result }
-{
-    let failed = !is_complete(next, totals.whole);
-    tell(
-        streams,
-        failed,
-        b"frames: a read or a write failed; no totals are written\n",
-    )
-}
-
-// With a million lines read no more is read.
-pub fn tell_left(streams: Streams, left: u32) -> Sent
-    ensures { Told (eqb left 0) left_text result }
-{
-    tell(
-        streams,
-        left == 0,
-        b"frames: a million lines were read; any input after them is left\n",
-    )
+    next == Next::Finish && totals.is_some_and(|sent| sent.whole)
 }

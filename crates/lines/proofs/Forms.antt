@@ -36,30 +36,6 @@ facch_line l e =
       d3 = digit_stands (get_or l 3 0) (shaped_at facch_shape l 3 (omega arith) e);
     }
 
--- ---- what a filled line is taken for, form by form
--- what a test told of what it equals
-pub told : {t u v : Bool} → t ≡ u → t ≡ v → u ≡ v
-told e f = sym e ∙ f
-
-module _ (l : List ℕ) where
-  pub form_sacch : shaped sacch_shape l ≡ true → Sacch (two_at l 2) (three_at l 5) ≡ by_form l
-  unfolding by_form
-  form_sacch d = rw d
-
-  module _ (d : shaped sacch_shape l ≡ false) where
-    pub form_discontinuity : shaped discontinuity_shape l ≡ true → Discontinuity ≡ by_form l
-    unfolding by_form
-    form_discontinuity e = rw (d, e)
-
-    module _ (e : shaped discontinuity_shape l ≡ false) where
-      pub form_facch : shaped facch_shape l ≡ true → Facch (two_at l 2) ≡ by_form l
-      unfolding by_form
-      form_facch f = rw (d, e, f)
-
-      pub form_unknown : shaped facch_shape l ≡ false → Unknown ≡ by_form l
-      unfolding by_form
-      form_unknown f = rw (d, e, f)
-
 -- ---- what a line is taken for, by its kind
 pub parsed_at : (l : List ℕ) {p q : LineKind} → p ≡ kind_of l → p ≡ q → by_kind q l ≡ parsed l
 unfolding parsed

@@ -1,4 +1,3 @@
 -- The laws of commands, of masked bits and of the lines that answer.
 pub mod Forms
 pub mod Masking
-pub mod Lettered

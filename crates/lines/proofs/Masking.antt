@@ -2,28 +2,19 @@
 use mathlib.Core.Path.{◌≡◌, refl, sym, ap, ap₂, subst, ◌∙◌}
 use mathlib.Core.Bool.{Bool, true, false, cond}
 use mathlib.Core.List.{List, [], ◌∷◌, ◌++◌, append-nil, append_assoc}
-use Prim.Native.Nat.{ℕ, zero, suc, ◌+◌, ◌*◌, ◌/◌, ◌%◌, ◌≤◌, ◌<◌}
+use Prim.Native.Nat.{ℕ, zero, suc, ◌+◌, ◌*◌, ◌/◌, ◌≤◌, ◌<◌}
 use native.Mathlib.Nat.{div-one}
 use native.Mathlib.Numerals.{add-one}
 use native.Mathlib.Omega.{arith}
-use borrow.Author.Tests.{ne_eqb}
-use lib.ListN.{length, get_or, take, drop, set, length-append, length-drop, length-set}
-use lib.Seq.{take_all, take-suc, length-take-le}
+use lib.ListN.{length, get_or, take, drop, set, replicate, length-append, length-drop, length-replicate, length-set}
+use lib.Seq.{get_or-drop, get_or-take, sets, sets-eq, take_all, take_at, take-suc, length-take-le}
+use Rattle.std.specs.Prelude.{Option, None, Some, MatchOption}
+use Rattle.std.specs.Option.{unwrap_or}
 use Rattle.bits.specs.Bits.{bit, byte}
 use Rattle.bits.specs.Numbers.{unpacked}
 use Rattle.bits.specs.Observed.{observed_count, observed_one}
-use Rattle.bits.proofs.Binary.{byte-bit_any}
 use Rattle.text.specs.Lines.{digit_of}
-use Rattle.text.specs.Writing.{Put}
 use Rattle.lines.specs.Masked.{digit_bits, mask_ones, masked, observed_bits, ones_in}
-use Rattle.text.proofs.Stored.{put_then, put_nothing, put_whole}
-
--- ---- one bit
-pub observed-bit : (b m : ℕ) → m % 2 ≡ 1 → b % 2 ≡ cond (bit m) (byte (bit b)) 2
-observed-bit b m e = rw (e) (sym (byte-bit_any b))
-
-pub unobserved_bit : (b m : ℕ) → (m % 2 ≡ 1 → ⊥) → 2 ≡ cond (bit m) (byte (bit b)) 2
-unobserved_bit b m n = rw (ne_eqb (m % 2) 1 n)
 
 -- ---- many
 length-unpacked : (n x : ℕ) → length (unpacked n x) ≡ n
@@ -99,48 +90,75 @@ observed_mask l e =
     observed_ones (digit_bits bits) (digit_bits mask)
     (length-bits bits ∙ ap (λ (n : ℕ). 4 * n) (digits_long l 5 (omega arith) e ∙ sym (digits_long l 71 (omega arith) e)) ∙ sym (length-bits mask))
 
--- ---- the loop: the bits of i digits are written
-pub record Reading (ds ms l : List ℕ) (i : ℕ) (bits : List ℕ) (at : ℕ) : Type 0 where
-  pub low : i ≤ length ds
-  pub place : at ≡ 4 * i
-  pub written : Put l 0 (both (take i ds) (take i ms)) bits at
+-- ---- the four bits of a character
+-- one that is no digit counts as 16, of which the four lowest bits are zeros
+four_of : (r : Option ℕ) (b : ℕ) → MatchOption r (digit_of b ≡ 16) (λ d. (d ≡ digit_of b) × (d < 16)) → unpacked 4 (unwrap_or r 0) ≡ unpacked 4 (digit_of b)
+unfolding unpacked
+four_of None b e = rw e refl
+four_of (Some d) b h = ap (unpacked 4) h.0
 
-module _ {ds ms l : List ℕ} (e : length ms ≡ length ds) where
-  pub reading_none : Reading ds ms l 0 l 0
-  unfolding digit_bits masked
-  reading_none = record { low = omega arith; place = refl; written = put_nothing l 0 }
+pub digit_read : (r : Option ℕ) (b : ℕ) {d : ℕ} → MatchOption r (digit_of b ≡ 16) (λ x. (x ≡ digit_of b) × (x < 16)) → d ≡ unwrap_or r 0 → unpacked 4 d ≡ unpacked 4 (digit_of b)
+digit_read r b h e = ap (unpacked 4) e ∙ four_of r b h
 
-  module _ {i : ℕ} {bits : List ℕ} {at : ℕ} (r : Reading ds ms l i bits at) where
-    pub reading_more : {bits' : List ℕ} {at' d m : ℕ} → i < length ds → d ≡ digit_of (get_or ds i 0) → m ≡ digit_of (get_or ms i 0)
-        → Put bits at (masked (unpacked 4 d) (unpacked 4 m)) bits' at' → at' ≡ at + 4 → Reading ds ms l (i + 1) bits' at'
-    reading_more {bits'} {at'} {d} {m} h ed em p past =
-        let same : length (take i ds) ≡ length (take i ms) = length-take-le i ds r.low ∙ sym (length-take-le i ms (omega (arith, r.low))) in
-        let more : both (take (i + 1) ds) (take (i + 1) ms) ≡ both (take i ds) (take i ms) ++ masked (unpacked 4 d) (unpacked 4 m) =
-        ap₂ both (ap (λ (n : ℕ). take n ds) (add-one i) ∙ take-suc ds i 0 h) (ap (λ (n : ℕ). take n ms) (add-one i) ∙ take-suc ms i 0 (omega arith))
-        ∙ both_append (take i ds) (take i ms) (get_or ds i 0) (get_or ms i 0) same
-        ∙ ap₂ (λ (x y : ℕ). both (take i ds) (take i ms) ++ masked (unpacked 4 x) (unpacked 4 y)) (sym ed) (sym em) in
+-- stored at their places
+four_stored : (l : List ℕ) (k a b c e : ℕ) → k + 4 ≤ length l
+    → take (k + 4) (set (set (set (set l k a) (k + 1) b) (k + 2) c) (k + 3) e) ≡ take k l ++ (a ∷ b ∷ c ∷ e ∷ [])
+four_stored l k a b c e h =
+    let four : List ℕ = a ∷ b ∷ c ∷ e ∷ [] in
+    let n1 : k + 1 ≡ suc k = add-one k in
+    let n2 : k + 2 ≡ suc (suc k) = omega arith in
+    let n3 : k + 3 ≡ suc (suc (suc k)) = omega arith in
+    let stored : set (set (set (set l k a) (k + 1) b) (k + 2) c) (k + 3) e ≡ sets l k four = rw (n1, n2, n3) refl in
+    let front : length (take k l ++ four) ≡ k + 4 = length-append (take k l) four ∙ ap (λ (n : ℕ). n + 4) (length-take-le k l (omega arith)) in
+    ap (take (k + 4)) (stored ∙ sets-eq four l k h) ∙ take_at (take k l ++ four) (drop (k + length four) l) (k + 4) front
+
+four_bits : (d m : ℕ) {a b c e : ℕ} → a ≡ cond (bit (m / 8)) (byte (bit (d / 8))) 2 → b ≡ cond (bit (m / 4)) (byte (bit (d / 4))) 2
+    → c ≡ cond (bit (m / 2)) (byte (bit (d / 2))) 2 → e ≡ cond (bit m) (byte (bit d)) 2 → a ∷ b ∷ c ∷ e ∷ [] ≡ masked (unpacked 4 d) (unpacked 4 m)
+unfolding masked unpacked
+four_bits d m ea eb ec ee = rw (ea, eb, ec, ee, div-one d, div-one m) refl
+
+-- ---- the loop: the bits of the first i digits are written
+pub record Reading (l : List ℕ) (i : ℕ) (bits : List ℕ) : Type 0 where
+  pub size : length bits ≡ 260
+  pub written : take (4 * i) bits ≡ both (take i (take 65 (drop 5 l))) (take i (take 65 (drop 71 l)))
+
+pub reading_none : (l : List ℕ) → Reading l 0 (replicate 260 0)
+unfolding digit_bits masked
+reading_none l = record { size = length-replicate {A = ℕ} 260 0; written = refl }
+
+module _ (l : List ℕ) (long : length l ≡ 136) where
+  digit_at_lem : (n i : ℕ) → n ≤ 71 → i < 65 → get_or (take 65 (drop n l)) i 0 ≡ get_or l (n + i) 0
+  digit_at_lem n i h b = get_or-take 65 (drop n l) i 0 b ∙ get_or-drop n l i 0
+
+  module _ {i : ℕ} {bits : List ℕ} (r : Reading l i bits) where
+    pub reading_more : (d m : ℕ) {a b c e : ℕ} → i < 65 → unpacked 4 d ≡ unpacked 4 (digit_of (get_or l (5 + i) 0)) → unpacked 4 m ≡ unpacked 4 (digit_of (get_or l (71 + i) 0))
+        → a ≡ cond (bit (m / 8)) (byte (bit (d / 8))) 2 → b ≡ cond (bit (m / 4)) (byte (bit (d / 4))) 2
+        → c ≡ cond (bit (m / 2)) (byte (bit (d / 2))) 2 → e ≡ cond (bit m) (byte (bit d)) 2
+        → Reading l (i + 1) (set (set (set (set bits (4 * i) a) (4 * i + 1) b) (4 * i + 2) c) (4 * i + 3) e)
+    reading_more d m {a} {b} {c} {e} h ed em ea eb ec ee =
+        let ds : List ℕ = take 65 (drop 5 l) in
+        let ms : List ℕ = take 65 (drop 71 l) in
+        let dl : length ds ≡ 65 = digits_long l 5 (omega arith) long in
+        let ml : length ms ≡ 65 = digits_long l 71 (omega arith) long in
+        let same : length (take i ds) ≡ length (take i ms) = length-take-le i ds (omega arith) ∙ sym (length-take-le i ms (omega arith)) in
+        let next : 4 * (i + 1) ≡ 4 * i + 4 = omega arith in
         record {
-          low = omega arith;
-          place = omega (arith, r.place);
-          written = subst (λ (vs : List ℕ). Put l 0 vs bits' at') (sym more) (put_then r.written p);
+          size = simp length-set r.size;
+          written =
+              ap (λ (n : ℕ). take n (set (set (set (set bits (4 * i) a) (4 * i + 1) b) (4 * i + 2) c) (4 * i + 3) e)) next
+              ∙ four_stored bits (4 * i) a b c e (omega (arith, r.size))
+              ∙ ap₂ (λ (x y : List ℕ). x ++ y) r.written
+              (four_bits d m ea eb ec ee ∙ ap₂ masked (ed ∙ ap (λ (x : ℕ). unpacked 4 (digit_of x)) (sym (digit_at_lem 5 i (omega arith) h)))
+              (em ∙ ap (λ (x : ℕ). unpacked 4 (digit_of x)) (sym (digit_at_lem 71 i (omega arith) h))))
+              ∙ sym (ap₂ both (ap (λ (n : ℕ). take n ds) (add-one i) ∙ take-suc ds i 0 (omega arith)) (ap (λ (n : ℕ). take n ms) (add-one i) ∙ take-suc ms i 0 (omega arith))
+              ∙ both_append (take i ds) (take i ms) (get_or ds i 0) (get_or ms i 0) same);
         }
 
-    pub reading_done : length ds ≤ i → length l ≡ 4 * length ds → bits ≡ both ds ms
-    reading_done h long =
-        put_whole (length_both ds ms (sym e) ∙ sym long)
-        (subst (λ (vs : List ℕ). Put l 0 vs bits at) (ap₂ both (take_all i ds h) (take_all i ms (omega arith))) r.written)
-
--- ---- four bits of a digit
-pub four_put : (d m : ℕ) {l : List ℕ} {at a b c e : ℕ} → a ≡ cond (bit (m / 8)) (byte (bit (d / 8))) 2 → b ≡ cond (bit (m / 4)) (byte (bit (d / 4))) 2
-    → c ≡ cond (bit (m / 2)) (byte (bit (d / 2))) 2 → e ≡ cond (bit m) (byte (bit d)) 2
-    → Put l at (masked (unpacked 4 d) (unpacked 4 m)) (set (set (set (set l at a) (at + 1) b) (at + 2) c) (at + 3) e) (at + 4)
-unfolding masked unpacked
-four_put d m {l} {at} {a} {b} {c} {e} ea eb ec ee =
-    let n1 : at + 1 ≡ suc at = add-one at in
-    let n2 : at + 2 ≡ suc (suc at) = omega arith in
-    let n3 : at + 3 ≡ suc (suc (suc at)) = omega arith in
-    record {
-      stored = rw (n1, n2, n3, ea, eb, ec, ee, div-one d, div-one m) refl;
-      kept = simp length-set refl;
-      past = refl;
-    }
+    pub reading_done : i ≡ 65 → bits ≡ observed_bits l
+    unfolding observed_bits
+    reading_done e =
+        let all : 260 ≡ 4 * i = omega arith in
+        let dl : length (take 65 (drop 5 l)) ≤ i = omega (arith, digits_long l 5 (omega arith) long) in
+        let ml : length (take 65 (drop 71 l)) ≤ i = omega (arith, digits_long l 71 (omega arith) long) in
+        sym (take_all 260 bits (omega (arith, r.size))) ∙ ap (λ (n : ℕ). take n bits) all ∙ r.written
+        ∙ ap₂ both (take_all i (take 65 (drop 5 l)) dl) (take_all i (take 65 (drop 71 l)) ml)

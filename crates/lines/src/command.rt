@@ -1,14 +1,13 @@
 // What a line of the program `frames` asks for (document 01, 'The line program `frames`'). The contracts cite specs/.
-ghost use Rattle.std.specs.Prelude.{◌≡◌, ◌+◌, ◌*◌, ◌≤◌};
-ghost use Rattle.text.specs.Lines.{digit_of, shaped, two_at};
-ghost use Rattle.lines.specs.Commands.{FacchLine, SacchLine, by_form, discontinuity_shape, facch_shape, parsed, sacch_shape, three_at};
+ghost use Rattle.std.specs.Prelude.{◌≡◌, cond, None, Some};
+ghost use Rattle.text.specs.Lines.{shaped, two_at};
+ghost use Rattle.lines.specs.Commands.{by_form, discontinuity_shape, facch_shape, parsed, sacch_shape, three_at};
 
-use bits::wide;
 use text::kind::{LineKind, line_kind};
-use text::{digit, has_shape, two};
+use text::{has_shape, three, two};
 
 // What a line asks for.
-#[derive(Clone, Copy)]
+#[derive(Clone, Copy, Debug, PartialEq, Eq)]
 pub enum Command {
     // Nothing: the line is skipped.
     Blank,
@@ -22,76 +21,61 @@ pub enum Command {
     Unknown,
 }
 
-fn is_sacch(line: &[u8]) -> bool
-    ensures { result ≡ shaped sacch_shape line.now }
+#[tactic(auto, using(crate::proofs::Forms::sacch_line), unfolding(crate::specs::Commands::sacch_shape))]
+fn sacch(line: &[u8]) -> Option<Command>
+    ensures { result ≡ cond (shaped sacch_shape line.now) (Some (Command.Sacch (two_at line.now 2) (three_at line.now 5))) None }
 {
-    has_shape(b"S ## ###", line)
+    if !has_shape(b"S ## ###", line) {
+        return None;
+    }
+    Some(Command::Sacch {
+        dvcc: two(line[2], line[3]) as u8,
+        field: three(line[5], line[6], line[7]) as u16,
+    })
 }
 
-fn is_discontinuity(line: &[u8]) -> bool
-    ensures { result ≡ shaped discontinuity_shape line.now }
+#[tactic(auto, unfolding(crate::specs::Commands::discontinuity_shape))]
+fn discontinuity(line: &[u8]) -> Option<Command>
+    ensures { result ≡ cond (shaped discontinuity_shape line.now) (Some Command.Discontinuity) None }
 {
-    has_shape(b"D", line)
-}
-
-fn is_facch(line: &[u8]) -> bool
-    ensures { result ≡ shaped facch_shape line.now }
-{
-    has_shape(
-        b"F ## ################################################################# #################################################################",
-        line,
-    )
-}
-
-// The number of three digits.
-fn three(high: u8, middle: u8, low: u8) -> usize
-    ensures { (result ≡ (digit_of high * 16 + digit_of middle) * 16 + digit_of low) × (result ≤ 4368) }
-{
-    two(high, middle) * 16 + wide(digit(low))
-}
-
-fn sacch(line: &[u8]) -> Command
-    requires { SacchLine line.now }
-    ensures { result ≡ Command.Sacch (two_at line.now 2) (three_at line.now 5) }
-{
-    let dvcc = two(line[2], line[3]);
-    let field = three(line[5], line[6], line[7]);
-    Command::Sacch {
-        dvcc: dvcc as u8,
-        field: field as u16,
+    if has_shape(b"D", line) {
+        Some(Command::Discontinuity)
+    } else {
+        None
     }
 }
 
-fn facch(line: &[u8]) -> Command
-    requires { FacchLine line.now }
-    ensures { result ≡ Command.Facch (two_at line.now 2) }
+#[tactic(auto, using(crate::proofs::Forms::facch_line), unfolding(crate::specs::Commands::facch_shape))]
+fn facch(line: &[u8]) -> Option<Command>
+    ensures { result ≡ cond (shaped facch_shape line.now) (Some (Command.Facch (two_at line.now 2))) None }
 {
-    let dvcc = two(line[2], line[3]);
-    Command::Facch { dvcc: dvcc as u8 }
+    let shape =
+        b"F ## ################################################################# #################################################################";
+    if !has_shape(shape, line) {
+        return None;
+    }
+    Some(Command::Facch {
+        dvcc: two(line[2], line[3]) as u8,
+    })
 }
 
 // What a filled line asks for, by its form.
+#[tactic(auto, unfolding(crate::specs::Commands::by_form))]
 fn by_form(line: &[u8]) -> Command
     ensures { result ≡ by_form line.now }
 {
-    if is_sacch(line) {
-        return sacch(line);
-    }
-    if is_discontinuity(line) {
-        return Command::Discontinuity;
-    }
-    if is_facch(line) {
-        return facch(line);
-    }
-    Command::Unknown
+    sacch(line)
+        .or_else(|| discontinuity(line))
+        .or_else(|| facch(line))
+        .unwrap_or(Command::Unknown)
 }
 
 // What a line asks for.
+#[tactic(auto, unfolding(crate::specs::Commands::parsed, crate::specs::Commands::by_kind))]
 pub fn parse(line: &[u8]) -> Command
     ensures { result ≡ parsed line.now }
 {
-    let kind = line_kind(line);
-    match kind {
+    match line_kind(line) {
         LineKind::TooLong => Command::Unknown,
         LineKind::Blank => Command::Blank,
         LineKind::Filled => by_form(line),

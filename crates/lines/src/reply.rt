@@ -1,16 +1,14 @@
-// The lines that answer (document 01, 'The line program `frames`'), written into a lent buffer. Each function answers the place after what it wrote.
-ghost use Rattle.std.specs.Prelude.{◌≡◌, [], ◌∷◌, ◌++◌, ◌+◌, ◌*◌, ◌≤◌, length};
+// The lines that answer (document 01, 'The line program `frames`'), written behind what a page holds.
+ghost use Rattle.std.specs.Prelude.{◌≡◌, ◌∷◌, ◌++◌, ◌+◌, ◌*◌, ◌≤◌, [], length};
 ghost use Rattle.bits.specs.Bits.{byte};
 ghost use Rattle.text.specs.Numerals.{hexadecimal};
-ghost use Rattle.text.specs.Writing.{Put};
-ghost use Rattle.lines.specs.Printing.{code_text, refusal_text, reply_text, total_text, word_text};
+ghost use Rattle.lines.specs.Printing.{code_text, refusal_text, reply_text, total_text};
 
 use bits::Refusal;
-use bits::refusals::number;
-use text::numerals::{put, put_decimal, put_hexadecimal, put_two};
+use text::buffer::Buffer;
 
 // What a line is answered.
-#[derive(Clone, Copy)]
+#[derive(Clone, Copy, Debug, PartialEq, Eq)]
 pub enum Reply {
     Nothing,
     // `P`
@@ -36,128 +34,96 @@ pub enum Reply {
 }
 
 // `R n`.
-fn put_refusal(out: &mut [u8], at: usize, why: Refusal) -> usize
-    requires { at + 4 ≤ length out.old }
-    ensures put { Put out.old at (refusal_text why) out.new result }
-    ensures value { result ≡ at + 4 }
+#[tactic(auto, unfolding(crate::specs::Printing::refusal_text))]
+fn put_refusal<const N: usize>(page: &mut Buffer<N>, why: Refusal)
+    requires { length page.old + 4 ≤ N }
+    ensures text { page.new ≡ page.old ++ refusal_text why }
+    ensures len { length page.new ≡ length page.old + 4 }
 {
-    let n = number(why);
-    let a = put(out, at, b'R');
-    let b = put_hexadecimal(out, a, 1, n as u64);
-    put(out, b, b'\n')
-}
-
-fn byte_of(b: bool) -> u64
-    ensures { result ≡ byte b }
-{
-    if b { 1 } else { 0 }
+    page.push(b'R');
+    page.put_hexadecimal(1, u64::from(u8::from(why)));
+    page.push(b'\n');
 }
 
 // The first half of a word's line: its letter, continuation and message.
-fn put_content(out: &mut [u8], at: usize, letter: u8, continuation: bool, message: u64) -> usize
-    requires { at + 16 ≤ length out.old }
-    ensures put { Put out.old at (letter ∷ (hexadecimal 1 (byte continuation) ++ hexadecimal 12 message)) out.new result }
-    ensures value { result ≡ at + 16 }
+fn put_content<const N: usize>(page: &mut Buffer<N>, letter: u8, continuation: bool, message: u64)
+    requires { length page.old + 16 ≤ N }
+    ensures text { page.new ≡ page.old ++ (letter ∷ (hexadecimal 1 (byte continuation) ++ hexadecimal 12 message)) }
+    ensures len { length page.new ≡ length page.old + 16 }
 {
-    let c = byte_of(continuation);
-    let a = put(out, at, letter);
-    let b = put_hexadecimal(out, a, 1, c);
-    put_hexadecimal(out, b, 12, message)
+    page.push(letter);
+    page.put_hexadecimal(1, u64::from(continuation));
+    page.put_hexadecimal(12, message);
 }
 
 // The second half: two numbers of so many digits, and LF.
-fn put_numbers(out: &mut [u8], at: usize, width: usize, x: u64, y: u64) -> usize
-    requires { at + 2 * width + 3 ≤ length out.old }
-    ensures put { Put out.old at (hexadecimal width x ++ (hexadecimal width y ++ 10 ∷ [])) out.new result }
-    ensures value { result ≡ at + 2 * width + 3 }
+fn put_numbers<const N: usize>(page: &mut Buffer<N>, width: usize, x: u64, y: u64)
+    requires { length page.old + 2 * width + 3 ≤ N }
+    ensures text { page.new ≡ page.old ++ (hexadecimal width x ++ (hexadecimal width y ++ 10 ∷ [])) }
+    ensures len { length page.new ≡ length page.old + 2 * width + 3 }
 {
-    let a = put_hexadecimal(out, at, width, x);
-    let b = put_hexadecimal(out, a, width, y);
-    put(out, b, b'\n')
-}
-
-// `W c m k e`.
-fn put_sacch(
-    out: &mut [u8],
-    at: usize,
-    continuation: bool,
-    message: u64,
-    corrected: u16,
-    ending: u8,
-) -> usize
-    requires { at + 23 ≤ length out.old }
-    ensures put { Put out.old at (word_text 87 2 continuation message corrected ending) out.new result }
-    ensures value { result ≡ at + 23 }
-{
-    let a = put_content(out, at, b'W', continuation, message);
-    put_numbers(out, a, 2, corrected as u64, ending as u64)
-}
-
-// `G c m k o`.
-fn put_facch(
-    out: &mut [u8],
-    at: usize,
-    continuation: bool,
-    message: u64,
-    corrected: u16,
-    observed: u16,
-) -> usize
-    requires { at + 25 ≤ length out.old }
-    ensures put { Put out.old at (word_text 71 3 continuation message corrected observed) out.new result }
-    ensures value { result ≡ at + 25 }
-{
-    let a = put_content(out, at, b'G', continuation, message);
-    put_numbers(out, a, 3, corrected as u64, observed as u64)
+    page.put_hexadecimal(width, x);
+    page.put_hexadecimal(width, y);
+    page.push(b'\n');
 }
 
 // The line of an answer.
-pub fn put_reply(out: &mut [u8], at: usize, reply: Reply) -> usize
-    requires { at + 25 ≤ length out.old }
-    ensures put { Put out.old at (reply_text reply) out.new result }
-    ensures upper_bound { result ≤ at + 25 }
+#[tactic(auto, unfolding(crate::specs::Printing::reply_text, crate::specs::Printing::word_text))]
+pub fn put_reply<const N: usize>(page: &mut Buffer<N>, reply: Reply)
+    requires { length page.old + 25 ≤ N }
+    ensures text { page.new ≡ page.old ++ reply_text reply }
+    ensures upper_bound { length page.new ≤ length page.old + 25 }
 {
     match reply {
-        Reply::Nothing => at,
-        Reply::Pending => put_two(out, at, b'P', b'\n'),
-        Reply::Refused(why) => put_refusal(out, at, why),
+        Reply::Nothing => {}
+        Reply::Pending => page.extend_from_slice(b"P\n"),
+        Reply::Refused(why) => put_refusal(page, why),
         Reply::SacchWord {
             continuation,
             message,
             corrected,
             ending,
-        } => put_sacch(out, at, continuation, message, corrected, ending),
-        Reply::Discontinuous => put_two(out, at, b'D', b'\n'),
+        } => {
+            put_content(page, b'W', continuation, message);
+            put_numbers(page, 2, u64::from(corrected), u64::from(ending));
+        }
+        Reply::Discontinuous => page.extend_from_slice(b"D\n"),
         Reply::FacchWord {
             continuation,
             message,
             corrected,
             observed,
-        } => put_facch(out, at, continuation, message, corrected, observed),
+        } => {
+            put_content(page, b'G', continuation, message);
+            put_numbers(page, 3, u64::from(corrected), u64::from(observed));
+        }
     }
 }
 
 // `T w r`.
-pub fn put_total(out: &mut [u8], at: usize, words: u64, rate: u64) -> usize
-    requires { at + 44 ≤ length out.old }
-    ensures put { Put out.old at (total_text words rate) out.new result }
-    ensures upper_bound { result ≤ at + 44 }
+#[tactic(auto, unfolding(crate::specs::Printing::total_text))]
+pub fn put_total<const N: usize>(page: &mut Buffer<N>, words: u64, rate: u64)
+    requires { length page.old + 44 ≤ N }
+    ensures text { page.new ≡ page.old ++ total_text words rate }
+    ensures upper_bound { length page.new ≤ length page.old + 44 }
 {
-    let a = put_two(out, at, b'T', b' ');
-    let b = put_decimal(out, a, words);
-    let c = put(out, b, b' ');
-    let d = put_decimal(out, c, rate);
-    put(out, d, b'\n')
+    page.extend_from_slice(b"T ");
+    page.put_decimal(words);
+    page.push(b' ');
+    page.put_decimal(rate);
+    page.push(b'\n');
 }
 
 // `C dd n`.
-pub fn put_code(out: &mut [u8], at: usize, dvcc: u8, n: u64) -> usize
-    requires { at + 26 ≤ length out.old }
-    ensures put { Put out.old at (code_text dvcc n) out.new result }
-    ensures upper_bound { result ≤ at + 26 }
+#[tactic(auto, unfolding(crate::specs::Printing::code_text))]
+pub fn put_code<const N: usize>(page: &mut Buffer<N>, dvcc: u8, n: u64)
+    requires { length page.old + 26 ≤ N }
+    ensures text { page.new ≡ page.old ++ code_text dvcc n }
+    ensures upper_bound { length page.new ≤ length page.old + 26 }
 {
-    let a = put(out, at, b'C');
-    let b = put_hexadecimal(out, a, 2, dvcc as u64);
-    let c = put(out, b, b' ');
-    let d = put_decimal(out, c, n);
-    put(out, d, b'\n')
+    page.push(b'C');
+    page.put_hexadecimal(2, u64::from(dvcc));
+    page.push(b' ');
+    page.put_decimal(n);
+    page.push(b'\n');
 }

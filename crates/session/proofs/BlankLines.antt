@@ -5,10 +5,10 @@ use Prim.Native.Nat.{ℕ, ◌<◌, ◌≤◌}
 use native.Mathlib.Nat.{add-zero}
 use lib.ListN.{length, get_or, replicate}
 use lib.Seq.{set-get_or}
-use Rattle.bits.specs.Refusals.{Answer, accepted, refused}
-use Rattle.bits.specs.Pushes.{PushAnswer}
-use Rattle.bits.specs.Pushes as push
-use Rattle.facch.specs.Decoding.{Content, decode_of}
+use Rattle.std.specs.Prelude.{Result, Ok, Err}
+use Rattle.bits.specs.declared.Refusal.{Refusal}
+use Rattle.facch.specs.Decoding.{decode_of}
+use Rattle.facch.specs.declared.FacchWord.{FacchWord}
 use Rattle.text.specs.LineKinds.{ShortBlank}
 use Rattle.text.specs.Numerals.{digits, glyph, hexadecimal}
 use Rattle.text.proofs.LineKinds.{never}
@@ -19,14 +19,14 @@ use Rattle.lines.specs.declared.command.Command.{Command}
 use Rattle.lines.specs.declared.command.Command.TheVariants as command
 use Rattle.lines.specs.declared.reply.Reply.{Reply}
 use Rattle.lines.proofs.Forms.{parsed-blank}
-use Rattle.sacch_decoder.specs.declared.SacchWord.{SacchWord}
+use Rattle.sacch_receiver.specs.declared.ReceiveOutcome.{ReceiveOutcome}
+use Rattle.sacch_receiver.specs.declared.ReceiveOutcome.TheVariants as outcome
 use Rattle.sacch_receiver.specs.Receiver.{push_of}
 use Rattle.sacch_receiver.specs.declared.SacchReceiver.{SacchReceiver}
-use Rattle.session.specs.declared.replies.Replied.{Replied}
 use Rattle.session.specs.declared.totals.Tally.{Tally}
 use Rattle.session.specs.BlankLines.{LengthFirst, OnlyWrites, line_refused}
 use Rattle.session.specs.Output.{State, next, said}
-use Rattle.session.specs.Replies.{command_replied, facch_reply, reply_to, sacch_replied, sacch_reply}
+use Rattle.session.specs.Replies.{Replied, command_replied, facch_reply, reply_to, sacch_replied, sacch_reply}
 use Rattle.session.specs.Totals.{added_by, counted, nothing_added, summed}
 use Rattle.session.proofs.Replying.{long_replied, spaces_replied}
 
@@ -63,17 +63,17 @@ spaces_line s n h = only_writes s (replicate n 32) (spaces_replied s.receiver n 
 written : {x : ℕ} {xs : List ℕ} {A : Type 0} → x ∷ xs ≡ [] → A
 written e = never cc
 
-sacch_written : (a : PushAnswer SacchWord) {A : Type 0} → reply_text (sacch_reply a) ≡ [] → A
+sacch_written : (a : Result ReceiveOutcome Refusal) {A : Type 0} → reply_text (sacch_reply a) ≡ [] → A
 unfolding sacch_reply reply_text refusal_text word_text
-sacch_written (push.accepted w) e = written e
-sacch_written push.pending e = written e
-sacch_written (push.rejected why) e = written e
-sacch_written (push.refused why) e = written e
+sacch_written (Ok outcome.Pending) e = written e
+sacch_written (Ok (outcome.Word w)) e = written e
+sacch_written (Ok (outcome.Rejected why)) e = written e
+sacch_written (Err why) e = written e
 
-facch-written : (a : Answer Content) {A : Type 0} → reply_text (facch_reply a) ≡ [] → A
+facch-written : (a : Result FacchWord Refusal) {A : Type 0} → reply_text (facch_reply a) ≡ [] → A
 unfolding facch_reply reply_text refusal_text word_text
-facch-written (accepted x) e = written e
-facch-written (refused why) e = written e
+facch-written (Ok x) e = written e
+facch-written (Err why) e = written e
 
 command_written : (r : SacchReceiver) (l : List ℕ) (c : Command) → reply_text (command_replied r l c).reply ≡ [] → c ≡ command.Blank
 unfolding command_replied sacch_replied reply_text refusal_text

@@ -1,38 +1,14 @@
 -- The totals, and the `C` lines as a loop writes them. Assumes nothing.
-use mathlib.Core.Path.{◌≡◌, refl, sym, ap, subst, ◌∙◌}
-use mathlib.Core.Logic.{◌≢◌}
+use mathlib.Core.Path.{◌≡◌, refl, sym, ap, ap₂, subst, ◌∙◌}
 use mathlib.Core.Bool.{Bool, true, false, cond}
 use mathlib.Core.List.{List, [], ◌∷◌, ◌++◌, append-nil, append_assoc}
-use Prim.Native.Nat.{ℕ, ◌+◌, ◌*◌, ◌/◌, ◌<◌, ◌≤◌}
+use Prim.Native.Nat.{ℕ, ◌+◌, ◌*◌, ◌≤◌}
 use native.Mathlib.Numerals.{add-one}
 use native.Mathlib.Omega.{arith}
-use borrow.Author.Tests.{eq-eqb, ne_eqb}
 use lib.Dec.{eqb}
 use lib.ListN.{length, get_or}
-use Rattle.lines.specs.Printing.{code_text, total_text}
-use Rattle.text.specs.Writing.{Put}
-use Rattle.text.proofs.Stored.{put_then, put_nothing}
-use Rattle.session.specs.declared.totals.Tally.{Tally}
-use Rattle.session.specs.Totals.{closing, code_line, code_lines, count_of, code_texts, lowest_first, rate_of, total_line}
-
--- ---- the rate
-pub rate_none : (t : Tally) → t.coded ≡ 0 → 0 ≡ rate_of t
-unfolding rate_of
-rate_none t e = rw (eq-eqb t.coded 0 e)
-
-pub rate_some : (t : Tally) → t.coded ≢ 0 → t.corrected * 1000 / t.coded ≡ rate_of t
-unfolding rate_of
-rate_some t e = rw (ne_eqb t.coded 0 e)
-
--- ---- the line of one code
-module _ (d n : ℕ) where
-  pub code_none : (out : List ℕ) (at : ℕ) → n ≡ 0 → Put out at (code_line d n) out at
-  unfolding code_line
-  code_none out at e = rw (eq-eqb n 0 e) (put_nothing out at)
-
-  pub code_some : {out out' : List ℕ} {at r : ℕ} → n ≢ 0 → Put out at (code_text d n) out' r → Put out at (code_line d n) out' r
-  unfolding code_line
-  code_some e p = rw (ne_eqb n 0 e) p
+use Rattle.lines.specs.Printing.{code_text}
+use Rattle.session.specs.Totals.{code_line, code_lines, count_of, code_texts, lowest_first}
 
 -- ---- the lines of many
 module _ (words : ℕ → ℕ) where
@@ -59,39 +35,27 @@ module _ (words : ℕ → ℕ) where
       ∙ ap (λ (l : List ℕ). code_texts words (lowest_first d words) ++ l) (lines_one d)
 
 -- the loop of `put_codes`: the lines of the codes below d are written
-pub record Listing (counts out : List ℕ) (from d : ℕ) (out' : List ℕ) (at : ℕ) : Type 0 where
-  pub most : d ≤ 256
-  pub room : at ≤ from + 26 * d
-  pub text : Put out from (code_texts (count_of counts) (lowest_first d (count_of counts))) out' at
+pub record Listing (counts before page : List ℕ) (d : ℕ) : Type 0 where
+  pub room : length page ≤ length before + 26 * d
+  pub text : page ≡ before ++ code_texts (count_of counts) (lowest_first d (count_of counts))
 
-module _ {counts out : List ℕ} {from : ℕ} where
-  pub listing_none : Listing counts out from 0 out from
+module _ {counts before : List ℕ} where
+  pub listing_none : Listing counts before before 0
   unfolding code_texts lowest_first
-  listing_none = record { most = omega arith; room = omega arith; text = put_nothing out from }
+  listing_none = record { room = omega arith; text = sym (append-nil before) }
 
-  module _ {d : ℕ} {out' : List ℕ} {at : ℕ} (p : Listing counts out from d out' at) where
-    pub listing_more : {code : ℕ} {out'' : List ℕ} {r : ℕ} → d < 256 → code ≡ d → Put out' at (code_line code (get_or counts code 0)) out'' r → r ≤ at + 26
-        → Listing counts out from (d + 1) out'' r
-    listing_more {code} {out''} {r} h e q room =
+  module _ {page : List ℕ} {d : ℕ} (p : Listing counts before page d) where
+    pub listing_more : {page' : List ℕ} {n : ℕ} → n ≡ get_or counts d 0 → page' ≡ page ++ code_line d n → length page' ≤ length page + 26
+        → Listing counts before page' (d + 1)
+    listing_more {page'} {n} e q room =
+        let texts : ℕ → List ℕ = λ k. code_texts (count_of counts) (lowest_first k (count_of counts)) in
         record {
-          most = omega arith;
           room = omega (arith, p.room);
           text =
-              subst (λ (l : List ℕ). Put out from l out'' r) (sym (lines_more (count_of counts) d))
-              (put_then p.text (subst (λ (k : ℕ). Put out' at (code_line k (get_or counts k 0)) out'' r) e q));
+              q ∙ ap₂ (λ (l : List ℕ) (k : ℕ). l ++ code_line d k) p.text e ∙ append_assoc before (texts d) (code_line d (get_or counts d 0))
+              ∙ ap (λ (l : List ℕ). before ++ l) (sym (lines_more (count_of counts) d));
         }
 
-    pub listing_room : from + 6656 ≤ length out → d < 256 → at + 26 ≤ length out'
-    listing_room room h = omega (arith, p.room, p.text.kept)
-
-    pub listing_done : 256 ≤ d → Put out from (code_lines (count_of counts)) out' at × at ≤ from + 6656
+    pub listing_done : d ≡ 256 → page ≡ before ++ code_lines (count_of counts)
     unfolding code_lines
-    listing_done h =
-        let e : d ≡ 256 = omega (arith, p.most) in
-        (subst (λ (n : ℕ). Put out from (code_texts (count_of counts) (lowest_first n (count_of counts))) out' at) e p.text, omega (arith, p.room))
-
--- ---- the closing lines
-pub closing-put : (t : Tally) (counts : List ℕ) {m : ℕ} {o0 o1 o2 : List ℕ} {i j k : ℕ} → m ≡ rate_of t → Put o0 i (total_text t.words m) o1 j
-    → Put o1 j (code_lines (count_of counts)) o2 k → Put o0 i (closing t counts) o2 k
-unfolding closing total_line
-closing-put t counts {m} {o0} {o1} {o2} {i} {j} e p q = put_then (subst (λ (x : ℕ). Put o0 i (total_text t.words x) o1 j) e p) q
+    listing_done e = subst (λ (n : ℕ). page ≡ before ++ code_texts (count_of counts) (lowest_first n (count_of counts))) e p.text

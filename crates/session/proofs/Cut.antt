@@ -4,7 +4,7 @@ use mathlib.Core.List.{List}
 use Prim.Native.Nat.{ℕ}
 use lib.ListN.{take}
 use Rattle.lines.specs.Printing.{reply_text}
-use Rattle.session.specs.declared.replies.Replied.{Replied}
+use Rattle.session.specs.Replies.{Replied}
 use Rattle.session.specs.Output.{State, next, said}
 use Rattle.session.specs.Totals.{added_by, counted, summed}
 use Rattle.session.proofs.Replying.{replied_cut}

@@ -1,22 +1,21 @@
 -- The session after a line. Assumes nothing.
-use mathlib.Core.Path.{◌≡◌, refl, ◌∙◌}
+use mathlib.Core.Path.{◌≡◌, refl, ap, ◌∙◌}
 use mathlib.Core.Logic.{◌≢◌}
 use mathlib.Core.List.{List, [], ◌∷◌}
 use Prim.Native.Nat.{ℕ, zero, suc, ◌+◌, ◌-◌, ◌<◌, ◌≤◌}
 use native.Mathlib.Omega.{arith}
 use borrow.Author.Tests.{ne_eqb}
-use lib.ListN.{get_or, set, take, length-set}
+use lib.ListN.{get_or, length, set, length-set, length-replicate, replicate}
 use Rattle.lines.specs.Printing.{reply_text}
-use Rattle.text.specs.Writing.{Put}
-use Rattle.text.proofs.Stored.{put_nothing}
-use Rattle.session.specs.declared.replies.Replied.{Replied}
-use Rattle.session.specs.declared.Session.{Session}
+use Rattle.lines.specs.declared.reply.Reply.{Reply}
+use Rattle.sacch_receiver.specs.Receiver.{fresh_receiver}
+use Rattle.sacch_receiver.specs.declared.SacchReceiver.{SacchReceiver}
 use Rattle.session.specs.declared.totals.Tally.{Tally}
-use Rattle.session.specs.Output.{next, said}
-use Rattle.session.specs.Totals.{added_by, counted, summed, OneAnswer}
+use Rattle.session.specs.Output.{fresh, next, said}
 use Rattle.session.specs.Replies.{reply_to}
-use Rattle.session.specs.Scanning.{ended, end_said}
-use Rattle.session.specs.Sessions.{LineEnded, WithinBounds, SessionFits, view_of}
+use Rattle.session.specs.Scanning.{Scan, end_said, ended}
+use Rattle.session.specs.Totals.{added_by, counted, nothing_added, summed, OneAnswer}
+use Rattle.session.specs.Sessions.{Fits, WithinBounds, at_start}
 
 -- ---- totals stay within bounds
 each_set : (l : List ℕ) (d v k m : ℕ) → get_or l k 0 ≤ m → v ≤ m → get_or (set l d v) k 0 ≤ m
@@ -26,7 +25,7 @@ each_set (x ∷ l) zero v (suc k) m h e = h
 each_set (x ∷ l) (suc d) v zero m h e = h
 each_set (x ∷ l) (suc d) v (suc k) m h e = each_set l d v k m h e
 
-modest_more : (t a : Tally) (left d : ℕ) (counts : List ℕ) → OneAnswer a → 0 < left → WithinBounds t left counts → WithinBounds (summed t a) (left - 1) (counted counts d a.words)
+pub modest_more : (t a : Tally) (left d : ℕ) (counts : List ℕ) → OneAnswer a → 0 < left → WithinBounds t left counts → WithinBounds (summed t a) (left - 1) (counted counts d a.words)
 unfolding summed counted
 modest_more t a left d counts p h m =
     record {
@@ -37,32 +36,48 @@ modest_more t a left d counts p h m =
       each = λ k. each_set counts d (get_or counts d 0 + a.words) k (t.words + a.words) (omega (arith, m.each k)) (omega (arith, m.each d));
     }
 
--- ---- the end of a line: none may be read, or it is answered
-pub line_none : (s : Session) (line counts out : List ℕ) (at : ℕ) → s.left ≡ 0 → SessionFits s line counts
-    → LineEnded s line counts counts out out at (record { session = record { left = s.left; len = 0; receiver = s.receiver; tally = s.tally }; at = at })
-unfolding view_of ended end_said
-line_none s line counts out at e h =
+zeros : (n d : ℕ) → get_or (replicate n 0) d 0 ≤ 0
+zeros zero d = omega arith
+zeros (suc n) zero = omega arith
+zeros (suc n) (suc d) = zeros n d
+
+pub start_fits : {t : Tally} {line : List ℕ} → t ≡ nothing_added → line ≡ [] → Fits t 1000000 (replicate 256 0) line
+unfolding nothing_added
+start_fits {t} {line} z e =
     record {
-      view = rw e refl;
-      text = rw e (put_nothing out at);
-      room = omega arith;
-      fits = record { bounds = h.bounds; long = h.long; within = omega arith };
+      bounds = rw z (record { words = omega arith; corrected = omega arith; coded = omega arith; codes = length-replicate {A = ℕ} 256 0; each = zeros 256 });
+      within = omega (arith, ap length e);
     }
 
-pub line_some : (s : Session) (line counts counts' out out' : List ℕ) (at : ℕ) (p : Replied) (a t : Tally) (n : ℕ) → s.left ≢ 0
-    → p ≡ reply_to s.receiver (take s.len line) → a ≡ added_by p.reply → OneAnswer a → t ≡ summed s.tally a
-    → counts' ≡ counted counts p.dvcc a.words → Put out at (reply_text p.reply) out' n → n ≤ at + 25 → SessionFits s line counts
-    → LineEnded s line counts counts' out out' at (record { session = record { left = s.left - 1; len = 0; receiver = p.receiver; tally = t }; at = n })
-unfolding view_of ended end_said next said
-line_some s line counts counts' out out' at p a t n some e ea light ft fc put room h =
-    record {
-      view = rw (ne_eqb s.left 0 some, ft, fc, ea, e) refl;
-      text = rw (ne_eqb s.left 0 some, ← e) put;
-      room = room;
-      fits =
-          record {
-            bounds = rw (ft, fc) (modest_more s.tally a s.left p.dvcc counts light (omega arith) h.bounds);
-            long = h.long;
-            within = omega arith;
-          };
-    }
+pub line_fits : {t a t' : Tally} {left : ℕ} (d : ℕ) {counts line : List ℕ} → Fits t left counts line → OneAnswer a → 0 < left → t' ≡ summed t a
+    → Fits t' (left - 1) (set counts d (get_or counts d 0 + a.words)) []
+unfolding counted
+line_fits {t} {a} {t'} {left} d {counts} {line} f one some e =
+    record { bounds = rw e (modest_more t a left d counts one some f.bounds); within = omega arith }
+
+-- ---- at the start
+pub started : {r : SacchReceiver} {t : Tally} {line : List ℕ} → r ≡ fresh_receiver → t ≡ nothing_added → line ≡ []
+    → record { left = 1000000; state = record { receiver = r; tally = t; counts = replicate 256 0 }; part = line } ≡ at_start
+unfolding at_start fresh
+started e z f = rw (e, z, f) refl
+
+-- ---- the end of a line: none may be read, or it is answered
+module _ (c : Scan) where
+  pub ended_none : c.left ≡ 0 → record { left = c.left; state = c.state; part = [] } ≡ ended c
+  unfolding ended
+  ended_none e = rw e refl
+
+  pub said_none : c.left ≡ 0 → [] ≡ end_said c
+  unfolding end_said
+  said_none e = rw e refl
+
+  module _ {line : List ℕ} {answer : Reply} (some : c.left ≢ 0) (e : line ≡ c.part) (a : answer ≡ (reply_to c.state.receiver line).reply) where
+    pub ended_some : {r : SacchReceiver} {d n : ℕ} {more t : Tally} → d ≡ (reply_to c.state.receiver line).dvcc → r ≡ (reply_to c.state.receiver line).receiver
+        → more ≡ added_by answer → t ≡ summed c.state.tally more → n ≡ d
+        → record { left = c.left - 1; state = record { receiver = r; tally = t; counts = set c.state.counts n (get_or c.state.counts n 0 + more.words) }; part = [] } ≡ ended c
+    unfolding ended next counted
+    ended_some ed er em et en = rw (ne_eqb c.left 0 some, et, em, en, ed, er, a, e) refl
+
+    pub said_some : reply_text answer ≡ end_said c
+    unfolding end_said said
+    said_some = rw (ne_eqb c.left 0 some, a, e) refl

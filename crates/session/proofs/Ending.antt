@@ -1,47 +1,28 @@
 -- The end of the input: a last line, and the closing lines. Assumes nothing.
-use mathlib.Core.Path.{◌≡◌, sym, ap, ◌∙◌}
-use mathlib.Core.Logic.{◌≢◌}
-use mathlib.Core.List.{List}
+use mathlib.Core.Path.{◌≡◌, refl, ap, ap₂, ◌∙◌}
+use mathlib.Core.Bool.{true, false}
+use mathlib.Core.List.{List, [], ◌++◌}
 use Prim.Native.Nat.{ℕ}
-use native.Mathlib.Omega.{arith}
-use borrow.Author.Tests.{eq-eqb, ne_eqb}
-use lib.ListN.{length, take}
-use lib.Seq.{length-take-le}
-use Rattle.text.specs.Writing.{Put}
-use Rattle.text.proofs.Stored.{put_then, put_nothing}
-use Rattle.session.specs.declared.Fed.{Fed}
-use Rattle.session.specs.declared.Session.{Session}
+use lib.Dec.{eqb}
+use lib.ListN.{length}
+use Rattle.session.specs.Output.{State}
 use Rattle.session.specs.Totals.{closing}
-use Rattle.session.specs.Scanning.{Scan, closed, close_said}
-use Rattle.session.specs.Sessions.{Closed, LineEnded, SessionFits, end_text, view_of}
+use Rattle.session.specs.Scanning.{Scan, closed, close_said, ended, end_said}
+use Rattle.session.specs.Sessions.{end_text}
 
--- ---- a last line without LF
-part_length : (s : Session) (line counts : List ℕ) → SessionFits s line counts → length (take s.len line) ≡ s.len
-part_length s line counts h = length-take-le s.len line (omega (arith, h.long, h.within))
+-- the last line of a scan is written and counted: there is none, or it is ended
+pub record Closed (c d : Scan) (page : List ℕ) : Type 0 where
+  pub state : d.state ≡ closed c
+  pub text : page ≡ close_said c
 
-pub last_none : (s : Session) (line counts out : List ℕ) → s.len ≡ 0 → SessionFits s line counts → Closed s line counts counts out out (record { session = s; at = 0 })
-unfolding view_of closed close_said
-last_none s line counts out e h =
-    record {
-      state = rw (eq-eqb (length (take s.len line)) 0 (part_length s line counts h ∙ e));
-      text = rw (eq-eqb (length (take s.len line)) 0 (part_length s line counts h ∙ e)) (put_nothing out 0);
-      room = omega arith;
-      bounds = h.bounds;
-    }
+pub last_none : {c d : Scan} {page : List ℕ} → eqb (length c.part) 0 ≡ true → d ≡ c → page ≡ [] → Closed c d page
+unfolding closed close_said
+last_none e f g = record { state = rw (e, f) refl; text = rw e g }
 
-pub last_some : (s : Session) (line counts counts' out out' : List ℕ) (r : Fed) → s.len ≢ 0 → SessionFits s line counts
-    → LineEnded s line counts counts' out out' 0 r → Closed s line counts counts' out out' r
-unfolding view_of closed close_said
-last_some s line counts counts' out out' r e h p =
-    let ne : length (take s.len line) ≢ 0 = λ z. e (sym (part_length s line counts h) ∙ z) in
-    record {
-      state = rw (ne_eqb (length (take s.len line)) 0 ne) (ap (λ (c : Scan). c.state) p.view);
-      text = rw (ne_eqb (length (take s.len line)) 0 ne) p.text;
-      room = p.room;
-      bounds = p.fits.bounds;
-    }
+pub last_some : {c d : Scan} {page : List ℕ} → eqb (length c.part) 0 ≡ false → d ≡ ended c → page ≡ end_said c → Closed c d page
+unfolding closed close_said
+last_some e f g = record { state = rw e (ap (λ (x : Scan). x.state) f); text = rw e g }
 
-pub finished : {s : Session} {line counts counts' o0 o1 o2 : List ℕ} (r : Fed) {k : ℕ} → Closed s line counts counts' o0 o1 r
-    → Put o1 r.at (closing r.session.tally counts') o2 k → Put o0 0 (end_text (view_of s line counts)) o2 k
+pub finished : {c d : Scan} {page page' : List ℕ} → Closed c d page → page' ≡ page ++ closing d.state.tally d.state.counts → page' ≡ end_text c
 unfolding end_text
-finished r p q = rw (← p.state) (put_then p.text q)
+finished h p = p ∙ ap₂ (λ (l : List ℕ) (s : State). l ++ closing s.tally s.counts) h.text h.state

@@ -4,47 +4,57 @@ use mathlib.Core.Logic.{◌≢◌}
 use mathlib.Core.List.{List, [], ◌∷◌, ◌++◌, append-nil}
 use Prim.Native.Nat.{ℕ, suc, ◌+◌, ◌-◌, ◌<◌, ◌≤◌, min}
 use native.Mathlib.Decide.{dec_lt}
-use native.Mathlib.Numerals.{add-one}
 use native.Mathlib.Omega.{arith}
 use borrow.Author.Tests.{ne_eqb}
-use lib.ListN.{length, get_or, take, drop, set, length-append, length-drop, length-set}
-use lib.Seq.{append_snoc, get_or-drop, get_or-take, length-take-le, sets, sets-eq, take-add, take_all, take-append-add, take_at, take-suc}
-use Rattle.text.specs.Writing.{Put}
-use Rattle.text.proofs.Stored.{put_then}
+use lib.ListN.{length, get_or, take, drop, length-drop}
+use lib.Seq.{append_snoc, get_or-drop, get_or-take, length-take-le, take-add, take_all, take-append-add, take-suc}
 use Rattle.text.specs.Lines.{LineEnd}
 use Rattle.session.specs.Output.{State}
 use Rattle.session.specs.Scanning.{Scan, grown, byte_seen, byte_said, seen, bytes_said}
-use Rattle.session.specs.Sessions.{Kept, part_of}
 use Rattle.session.proofs.Whole.{scan, take-grown}
 
 -- ---- bytes with no LF among them only lengthen the line
 abbrev pub Plain : List ℕ → Type 0
 Plain ps = (i : ℕ) → i < length ps → get_or ps i 0 ≢ 10
 
+pub plain_said : (ps : List ℕ) (c : Scan) → Plain ps → bytes_said c ps ≡ []
+unfolding bytes_said byte_said
+plain_said [] c p = refl
+plain_said (b ∷ bs) c p = rw (ne_eqb b 10 (p 0 (omega arith))) (plain_said bs (byte_seen c b) (λ i h. p (suc i) (omega arith)))
+
 module _ (k : ℕ) (s : State) where
   byte_grows : (q : List ℕ) (b : ℕ) → b ≢ 10 → byte_seen (scan k s q) b ≡ scan k s (q ++ (b ∷ []))
   unfolding byte_seen grown
   byte_grows q b n = rw (ne_eqb b 10 n) (ap (λ (p : List ℕ). record { left = k; state = s; part = p }) (take-grown 137 q b))
 
-  byte_silent : (q : List ℕ) (b : ℕ) → b ≢ 10 → byte_said (scan k s q) b ≡ []
-  unfolding byte_said
-  byte_silent q b n = rw (ne_eqb b 10 n)
-
-  pub plain_seen : (ps q : List ℕ) → Plain ps → seen (scan k s q) ps ≡ scan k s (q ++ ps)
+  plain_seen : (ps q : List ℕ) → Plain ps → seen (scan k s q) ps ≡ scan k s (q ++ ps)
   unfolding seen
   plain_seen [] q p = ap (scan k s) (sym (append-nil q))
   plain_seen (b ∷ bs) q p =
       ap (λ (c : Scan). seen c bs) (byte_grows q b (p 0 (omega arith)))
       ∙ plain_seen bs (q ++ (b ∷ [])) (λ i h. p (suc i) (omega arith)) ∙ ap (scan k s) (append_snoc q b bs)
 
-  pub plain_said : (ps q : List ℕ) → Plain ps → bytes_said (scan k s q) ps ≡ []
-  unfolding bytes_said
-  plain_said [] q p = refl
-  plain_said (b ∷ bs) q p =
-      ap (λ (l : List ℕ). l ++ bytes_said (byte_seen (scan k s q) b) bs) (byte_silent q b (p 0 (omega arith)))
-      ∙ ap (λ (c : Scan). bytes_said c bs) (byte_grows q b (p 0 (omega arith))) ∙ plain_said bs (q ++ (b ∷ [])) (λ i h. p (suc i) (omega arith))
+-- ---- as many of them are kept as there is room for
+room_taken : (ps : List ℕ) (n m : ℕ) → n ≡ min (length ps) m → take n ps ≡ take m ps
+room_taken ps n m e = elim (dec_lt (length ps) m)
+    [ yes h ↦ take_all n ps (omega arith) ∙ sym (take_all m ps (omega arith)) | no h ↦ let z : n ≡ m = omega arith in ap (λ (k : ℕ). take k ps) z ]
+
+pub kept_seen : (c : Scan) (ps : List ℕ) (n : ℕ) → length c.part ≤ 137 → n ≡ min (length ps) (137 - length c.part) → Plain ps
+    → record { left = c.left; state = c.state; part = c.part ++ take n ps } ≡ seen c ps
+kept_seen c ps n short e plain =
+    let q : List ℕ = c.part in
+    let with : List ℕ → Scan = λ l. record { left = c.left; state = c.state; part = l } in
+    let split : length q + (137 - length q) ≡ 137 = omega arith in
+    let cut : q ++ take n ps ≡ take 137 (q ++ ps) =
+    ap (λ (l : List ℕ). q ++ l) (room_taken ps n (137 - length q) e) ∙ sym (take-append-add q ps (137 - length q))
+    ∙ ap (λ (m : ℕ). take m (q ++ ps)) split in
+    ap with cut ∙ sym (ap (λ (l : List ℕ). seen (with l) ps) (sym (take_all 137 q short)) ∙ plain_seen c.left c.state ps q plain)
 
 -- ---- a part of a piece
+-- the bytes from `from` up to `end`, and the LF there
+abbrev part_of : List ℕ → ℕ → ℕ → List ℕ
+part_of piece from end = take (end + 1 - from) (drop from piece)
+
 module _ {piece : List ℕ} {from end : ℕ} (e : LineEnd piece from end) where
   abbrev inner : List ℕ
   inner = take (end - from) (drop from piece)
@@ -79,53 +89,3 @@ module _ {piece : List ℕ} {from end : ℕ} (e : LineEnd piece from end) where
   part_then =
       let n : end + 1 ≡ from + (end + 1 - from) = omega (arith, e.low) in
       ap (λ (m : ℕ). take m piece) n ∙ take-add from (end + 1 - from) piece
-
--- ---- the loop of `keep`: i bytes are kept behind the first `len`
-pub record Keeping (part line : List ℕ) (len n i : ℕ) (line' : List ℕ) : Type 0 where
-  pub count : n ≡ min (length part) (137 - len)
-  pub low : i ≤ n
-  pub stored : Put line len (take i part) line' (len + i)
-
-module _ {part line : List ℕ} {len n : ℕ} (long : length line ≡ 137) (within : len ≤ 137) where
-  pub keeping_none : n ≡ min (length part) (137 - len) → Keeping part line len n 0 line
-  keeping_none e = record { count = e; low = omega arith; stored = record { stored = refl; kept = refl; past = refl } }
-
-  module _ {i : ℕ} {line' : List ℕ} (k : Keeping part line len n i line') where
-    pub keeping_room : i < n → len + i < length line'
-    keeping_room h = omega (arith, k.count, k.stored.kept)
-
-    pub keeping_more : i < n → Keeping part line len n (i + 1) (set line' (len + i) (get_or part i 0))
-    keeping_more h =
-        let one : Put line' (len + i) (get_or part i 0 ∷ []) (set line' (len + i) (get_or part i 0)) (len + (i + 1)) =
-        record { stored = refl; kept = length-set line' (len + i) (get_or part i 0); past = omega arith } in
-        let e : take (i + 1) part ≡ take i part ++ (get_or part i 0 ∷ []) =
-        ap (λ (m : ℕ). take m part) (add-one i) ∙ take-suc part i 0 (omega (arith, k.count)) in
-        record {
-          count = k.count;
-          low = omega arith;
-          stored = subst (λ (vs : List ℕ). Put line len vs (set line' (len + i) (get_or part i 0)) (len + (i + 1))) (sym e) (put_then k.stored one);
-        }
-
-    short : n ≡ min (length part) (137 - len) → take (137 - len) part ≡ take n part
-    short e = elim (dec_lt (length part) (137 - len))
-        [ yes h ↦ take_all (137 - len) part (omega arith) ∙ sym (take_all n part (omega arith)) | no h ↦ let z : 137 - len ≡ n = omega arith in ap (λ (m : ℕ). take m part) z ]
-
-    pub keeping_done : n ≤ i → Kept part line len line' (len + n)
-    keeping_done h =
-        let same : i ≡ n = omega (arith, k.low) in
-        let vs : List ℕ = take n part in
-        let size : length vs ≡ n = length-take-le n part (omega (arith, k.count)) in
-        let front : length (take len line) ≡ len = length-take-le len line (omega arith) in
-        let stored : line' ≡ sets line len vs = k.stored.stored ∙ ap (λ (m : ℕ). sets line len (take m part)) same in
-        let fits : len + length vs ≤ length line = omega (arith, k.count) in
-        let whole : length (take len line ++ vs) ≡ len + n = length-append (take len line) vs ∙ omega (arith, size, front) in
-        let cut : take (137 - len) part ≡ vs = short k.count in
-        let split : 137 ≡ length (take len line) + (137 - len) = omega arith in
-        record {
-          kept =
-              ap (take (len + n)) (stored ∙ sets-eq vs line len fits) ∙ take_at (take len line ++ vs) (drop (len + length vs) line) (len + n) whole
-              ∙ ap (λ (l : List ℕ). take len line ++ l) (sym cut)
-              ∙ sym (ap (λ (m : ℕ). take m (take len line ++ part)) split ∙ take-append-add (take len line) part (137 - len));
-          long = k.stored.kept ∙ long;
-          within = omega (arith, k.count);
-        }

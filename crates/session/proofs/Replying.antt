@@ -6,18 +6,18 @@ use Prim.Native.Nat.{ℕ, ◌<◌, ◌≤◌}
 use native.Mathlib.Omega.{arith}
 use lib.ListN.{length, take, drop, replicate}
 use Rattle.bits.specs.declared.Refusal.TheVariants.{Line}
-use Rattle.bits.specs.declared.arguments.Arguments.{Arguments}
-use Rattle.bits.specs.declared.arguments.Arguments.TheVariants.{Passed}
+use Rattle.bits.specs.Arguments.{Arguments}
+use Rattle.bits.specs.declared.Refusal.{Refusal}
+use Rattle.std.specs.Prelude.{Result, Ok}
 use Rattle.bits.specs.Bits.{all_below}
 use Rattle.bits.proofs.Refusing.{erasable_passed}
 use Rattle.bits.specs.Observed.{all_erasable}
-use Rattle.facch.specs.Decoding.{decode_answer, decode_of, decoding, erased_arguments}
-use Rattle.facch.specs.declared.Decoded.{Decoded}
+use Rattle.facch.specs.Decoding.{decode_of, decoding, erased_arguments}
+use Rattle.facch.specs.declared.FacchWord.{FacchWord}
 use Rattle.lines.specs.Commands.{by_form, by_kind, discontinuity_shape, facch_shape, parsed, sacch_shape, three_at}
 use Rattle.lines.specs.Masked.{digit_bits, masked, observed_bits}
 use Rattle.lines.specs.declared.command.Command.{Command}
 use Rattle.lines.specs.declared.command.Command.TheVariants as command
-use Rattle.lines.specs.declared.reply.Reply.{Reply}
 use Rattle.lines.specs.declared.reply.Reply.TheVariants as reply
 use Rattle.lines.proofs.Forms.{facch_line, parsed_long, parsed_spaces, sacch_line}
 use Rattle.lines.proofs.Masking.{length-observed}
@@ -26,28 +26,8 @@ use Rattle.text.specs.LineKinds.{kind_of}
 use Rattle.text.specs.declared.kind.LineKind.{LineKind}
 use Rattle.text.specs.declared.kind.LineKind.TheVariants as kind
 use Rattle.text.proofs.LineKinds.{cut_alike}
-use Rattle.sacch_receiver.specs.Receiver.{Moved, moved, outcome_answer, fresh_receiver, push_of}
-use Rattle.sacch_receiver.specs.declared.Pushed.{Pushed}
 use Rattle.sacch_receiver.specs.declared.SacchReceiver.{SacchReceiver}
-use Rattle.session.specs.Replies.{command_replied, facch_reply, reply_to, sacch_replied, sacch_reply}
-
--- ---- by what the line asks for
-pub field_replied : (r : SacchReceiver) (dvcc field : ℕ) (p : Pushed) {a : Reply} → moved p ≡ push_of r field dvcc → a ≡ sacch_reply (outcome_answer p.outcome)
-    → record { receiver = p.receiver; dvcc = dvcc; reply = a } ≡ sacch_replied r dvcc field
-unfolding sacch_replied
-field_replied r dvcc field p e f =
-    ap (λ (a : Reply). record { receiver = p.receiver; dvcc = dvcc; reply = a }) f
-    ∙ ap (λ (m : Moved). record { receiver = m.receiver; dvcc = dvcc; reply = sacch_reply m.answer }) e
-
-pub word_replied : (r : SacchReceiver) (dvcc : ℕ) (l : List ℕ) {a : Reply} → a ≡ facch_reply (decode_of (observed_bits l) dvcc)
-    → record { receiver = r; dvcc = dvcc; reply = a } ≡ command_replied r l (command.Facch dvcc)
-unfolding command_replied
-word_replied r dvcc l e = ap (λ (a : Reply). record { receiver = r; dvcc = dvcc; reply = a }) e
-
-pub reset_replied : (r : SacchReceiver) (l : List ℕ) {f : SacchReceiver} → f ≡ fresh_receiver
-    → record { receiver = f; dvcc = 0; reply = reply.Discontinuous } ≡ command_replied r l command.Discontinuity
-unfolding command_replied
-reset_replied r l e = ap (λ (f : SacchReceiver). record { receiver = f; dvcc = 0; reply = reply.Discontinuous }) e
+use Rattle.session.specs.Replies.{command_replied, reply_to, sacch_replied}
 
 pub replied_at : (r : SacchReceiver) (l : List ℕ) {p q : Command} → p ≡ parsed l → p ≡ q → command_replied r l q ≡ reply_to r l
 unfolding reply_to
@@ -62,16 +42,16 @@ masked_erasable (b ∷ bs) (false ∷ ms) = masked_erasable bs ms
 masked_erasable (false ∷ bs) (true ∷ ms) = masked_erasable bs ms
 masked_erasable (true ∷ bs) (true ∷ ms) = masked_erasable bs ms
 
-pub observed_passed : (l : List ℕ) → length l ≡ 136 → erased_arguments (observed_bits l) ≡ Passed
+pub observed_passed : (l : List ℕ) → length l ≡ 136 → erased_arguments (observed_bits l) ≡ Ok tt
 unfolding observed_bits
 observed_passed l e =
     erasable_passed 260 (observed_bits l) (length-observed l e) (masked_erasable (digit_bits (take 65 (drop 5 l))) (digit_bits (take 65 (drop 71 l))))
 
 -- what `decode_erased` answers to them
-pub facch_replied : (l : List ℕ) (dvcc : ℕ) {bits : List ℕ} (d : Decoded) {a : Reply} → length l ≡ 136 → bits ≡ observed_bits l
-    → decode_answer d ≡ decoding (erased_arguments bits) bits dvcc → a ≡ facch_reply (decode_answer d) → a ≡ facch_reply (decode_of (observed_bits l) dvcc)
-facch_replied l dvcc d long e p f =
-    f ∙ ap facch_reply (p ∙ ap (λ (bits : List ℕ). decoding (erased_arguments bits) bits dvcc) e ∙ ap (λ (x : Arguments). decoding x (observed_bits l) dvcc) (observed_passed l long))
+pub facch_answered : (l : List ℕ) (dvcc : ℕ) {bits : List ℕ} {d : Result FacchWord Refusal} → length l ≡ 136 → bits ≡ observed_bits l
+    → d ≡ decoding (erased_arguments bits) bits dvcc → d ≡ decode_of (observed_bits l) dvcc
+facch_answered l dvcc long e p =
+    p ∙ ap (λ (bits : List ℕ). decoding (erased_arguments bits) bits dvcc) e ∙ ap (λ (x : Arguments). decoding x (observed_bits l) dvcc) (observed_passed l long)
 
 -- ---- the code of a line has two digits
 form_code : (r : SacchReceiver) (l : List ℕ) (t u v : Bool) → shaped sacch_shape l ≡ t → shaped facch_shape l ≡ v

@@ -3,9 +3,8 @@ use Rattle.std.specs.Prelude.{◌≡◌, ◌≢◌, cond, ℕ, ◌+◌, ◌<◌,
 use mathlib.Core.List.{List, [], ◌∷◌, ◌++◌, Memᴰ}
 use Rattle.sacch_receiver.specs.Receiver.{fresh_receiver}
 use Rattle.sacch_receiver.specs.declared.SacchReceiver.{SacchReceiver}
-use Rattle.session.specs.declared.replies.Replied.{Replied}
 use Rattle.session.specs.Output.{final_state, fresh, lines_read, output, spoken}
-use Rattle.session.specs.Replies.{reply_to}
+use Rattle.session.specs.Replies.{Replied, reply_to}
 use Rattle.session.specs.Totals.{added_by, code_texts, total_line}
 
 -- ---- the words of a code

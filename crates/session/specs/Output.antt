@@ -1,6 +1,6 @@
 -- The program `frames` (document 01, 'The line program `frames`'): what it writes for an input of any bytes is `output`, the last definition here.
 -- What a line is answered is in Replies.antt, how answers are written in lines/specs/Printing.antt, the totals and the closing lines in Totals.antt, the order of the `C` lines in CodeLines.antt.
-use Rattle.std.specs.Prelude.{cond, List, [], ◌∷◌, ◌++◌, ℕ, ◌+◌, eqb, length, replicate, take}
+use Rattle.std.specs.Prelude.{cond, List, [], ◌∷◌, ◌++◌, ℕ, eqb, length, replicate, take}
 use Rattle.lines.specs.Printing.{reply_text}
 use Rattle.sacch_receiver.specs.Receiver.{fresh_receiver}
 use Rattle.sacch_receiver.specs.declared.SacchReceiver.{SacchReceiver}

@@ -1,13 +1,11 @@
 -- An input fed piece by piece, from the start.
-use Rattle.std.specs.Prelude.{List, [], ◌++◌, ℕ, ◌≤◌, length, replicate, take}
-use Rattle.session.specs.declared.Fed.{Fed}
-use Rattle.session.specs.declared.Session.{Session}
-use Rattle.session.specs.Sessions.{PieceFed, begun}
+use Rattle.std.specs.Prelude.{List, [], ◌++◌, ℕ}
+use Rattle.session.specs.Scanning.{Scan, bytes_said, seen}
+use Rattle.session.specs.Sessions.{at_start}
 
--- Calls of `feed` one after the other, the first with what `start` gives and no code counted, each other with what the call before it left: all that was
--- fed, all that was written of it, and the session, the line and the counts that they leave.
-pub data FedInPieces : List ℕ → List ℕ → Session → List ℕ → List ℕ → Type 0 where
-  started : {line : List ℕ} → FedInPieces [] [] begun line (replicate 256 0)
-  more : {input written line line' counts counts' out out' : List ℕ} {s : Session} (piece : List ℕ) (r : Fed) → FedInPieces input written s line counts
-      → PieceFed s piece line line' counts counts' out out' r → r.at ≤ length out'
-      → FedInPieces (input ++ piece) (written ++ take r.at out') r.session line' counts'
+-- Calls of `feed` one after the other, the first on what `new` gives, each other on what the call before it left: all that was fed, all that the pages then
+-- held, and the session that they leave.
+pub data FedInPieces : List ℕ → List ℕ → Scan → Type 0 where
+  started : FedInPieces [] [] at_start
+  more : {input written : List ℕ} {c : Scan} (piece : List ℕ) → FedInPieces input written c
+      → FedInPieces (input ++ piece) (written ++ bytes_said c piece) (seen c piece)

@@ -2,111 +2,120 @@
 // specs/Output.antt has what is written for a whole input, as one definition.
 #![tactic(auto)]
 
-pub mod pieces;
 mod replies;
 mod totals;
 
-ghost use Rattle.std.specs.Prelude.{◌≡◌, ◌+◌, ◌≤◌, length};
-ghost use Rattle.text.specs.Writing.{Put};
-ghost use Rattle.session.specs.Sessions.{Closed, LineEnded, SessionFits, begun, end_text, view_of};
+ghost use Rattle.std.specs.Prelude.{◌≡◌, ◌≢◌, ◌++◌, ◌+◌, ◌*◌, ◌≤◌, ◌<◌, ℕ, length, slice_index};
+ghost use Rattle.session.specs.Scanning.{bytes_said, closed, end_said, ended, seen};
+ghost use Rattle.session.specs.Sessions.{at_start, end_text};
 
 use crate::replies::reply_to;
-use crate::totals::{Tally, added, count, put_closing, sum};
+use crate::totals::{Tally, added, put_closing};
 use lines::reply::put_reply;
 use sacch::SacchReceiver;
+use std::marker::Model;
+use text::buffer::Buffer;
+use text::line_end;
 
-// All that goes from one piece of the input to the next, but for two lent buffers: the line so far, and how many words each colour code has.
-#[derive(Clone, Copy)]
+// All that goes from one piece of the input to the next. A clause sees it as a scan of the input so far (specs/Scanning.antt).
+#[derive(Drop)]
 pub struct Session {
     // How many lines may still be read.
-    pub left: u32,
-    // How many characters of the line so far are kept.
-    pub len: usize,
-    pub receiver: SacchReceiver,
-    pub tally: Tally,
+    left: u32,
+    // The line so far: its first 137 characters, as no answer depends on more.
+    line: Buffer<137>,
+    receiver: SacchReceiver,
+    tally: Tally,
+    // How many words each colour code has.
+    counts: [u32; 256],
 }
 
-// A session, and the place after what was written.
-#[derive(Clone, Copy)]
-pub struct Fed {
-    pub session: Session,
-    pub at: usize,
+impl Model for Session {
+    ghost use Rattle.session.specs.Scanning.{Scan};
+    ghost use Rattle.session.specs.Sessions.{Fits};
+
+    ghost Value = { Scan };
+
+    ghost view = { λ s. record { left = s.left; state = record { receiver = s.receiver; tally = s.tally; counts = s.counts }; part = s.line } };
+
+    ghost invariant = { λ s. Fits s.tally s.left s.counts s.line };
 }
 
-// The line so far is at its end: it is answered and counted, unless a million lines were read.
-pub fn end_line(session: Session, line: &[u8], counts: &mut [u32], out: &mut [u8], at: usize) -> Fed
-    requires { SessionFits session line.now counts.old × (at + 25 ≤ length out.old) }
-    ensures { LineEnded session line.now counts.old counts.new out.old out.new at result }
-{
-    let left = session.left;
-    let len = session.len;
-    let receiver = session.receiver;
-    let tally = session.tally;
-    if left == 0 {
-        return Fed {
-            session: Session {
-                left,
-                len: 0,
-                receiver,
-                tally,
-            },
-            at,
-        };
+impl Session {
+    // Before the input: nothing heard, nothing counted, a million lines to read.
+    pub fn new() -> Self
+        ensures { result ≡ at_start }
+    {
+        Session {
+            left: 1000000,
+            line: Buffer::new(),
+            receiver: SacchReceiver::new(),
+            tally: Tally::default(),
+            counts: [0; 256],
+        }
     }
-    let replied = reply_to(receiver, &line[..len]);
-    let reply = replied.reply;
-    let moved = replied.receiver;
-    let more = added(reply);
-    count(counts, replied.dvcc, more.words);
-    let next = put_reply(out, at, reply);
-    let total = sum(tally, more);
-    Fed {
-        session: Session {
-            left: left - 1,
-            len: 0,
-            receiver: moved,
-            tally: total,
-        },
-        at: next,
-    }
-}
 
-// Before the input: nothing heard, nothing counted, a million lines to read.
-pub fn start() -> Session
-    ensures { result ≡ begun }
-{
-    Session {
-        left: 1000000,
-        len: 0,
-        receiver: SacchReceiver::new(),
-        tally: Tally {
-            words: 0,
-            corrected: 0,
-            coded: 0,
-        },
+    // How many lines may still be read.
+    pub fn left(&self) -> u32
+        ensures { result ≡ self.now.left }
+    {
+        self.left
     }
-}
 
-// A last line without LF counts if it is not empty.
-fn last_line(session: Session, line: &[u8], counts: &mut [u32], out: &mut [u8]) -> Fed
-    requires { SessionFits session line.now counts.old × (25 ≤ length out.old) }
-    ensures { Closed session line.now counts.old counts.new out.old out.new result }
-{
-    let len = session.len;
-    if len == 0 {
-        return Fed { session, at: 0 };
+    // Bytes of a line, none of them LF, go on with the line so far.
+    fn keep(&mut self, part: &[u8])
+        requires { (k : ℕ) → k < length part.now → slice_index part.now k ≢ 10 }
+        ensures { self.new ≡ seen self.old part.now }
+    {
+        let n = part.len().min(137 - self.line.len());
+        self.line.extend_from_slice(&part[..n]);
     }
-    end_line(session, line, counts, out, 0)
-}
 
-// What follows the input: a last line without LF, and the closing lines.
-pub fn finish(session: Session, line: &[u8], counts: &mut [u32], out: &mut [u8]) -> usize
-    requires { SessionFits session line.now counts.old × (8192 ≤ length out.old) }
-    ensures put { Put out.old 0 (end_text (view_of session line.now counts.old)) out.new result }
-    ensures upper_bound { result ≤ length out.new }
-{
-    let fed = last_line(session, line, counts, out);
-    let ended = fed.session;
-    let tally = ended.tally;
-    put_closing(tally, counts, out, fed.at)
+    // The line so far is at its end: it is answered and counted, unless a million lines were read.
+    pub fn end_line<const N: usize>(&mut self, page: &mut Buffer<N>)
+        requires { length page.old + 25 ≤ N }
+        ensures session { self.new ≡ ended self.old }
+        ensures text { page.new ≡ page.old ++ end_said self.old }
+        ensures upper_bound { length page.new ≤ length page.old + 25 }
+    {
+        if self.left > 0 {
+            let replied = reply_to(&mut self.receiver, self.line.as_slice());
+            put_reply(page, replied.reply);
+            let more = added(replied.reply);
+            self.tally += more;
+            self.counts[usize::from(replied.dvcc)] += more.words as u32;
+            self.left -= 1;
+        }
+        self.line.clear();
+    }
+
+    // A piece of the input. The page then holds what is written of it.
+    pub fn feed<const N: usize>(&mut self, piece: &[u8], page: &mut Buffer<N>)
+        requires { 25 * length piece.now ≤ N }
+        ensures session { self.new ≡ seen self.old piece.now }
+        ensures text { page.new ≡ bytes_said self.old piece.now }
+    {
+        page.clear();
+        let mut from = 0;
+        while let Some(end) = line_end(piece, from) {
+            self.keep(&piece[from..end]);
+            self.end_line(page);
+            from = end + 1;
+        }
+        self.keep(&piece[from..]);
+    }
+
+    // What follows the input: a last line without LF counts if it is not empty, then the closing lines. The page then holds them.
+    pub fn finish<const N: usize>(&mut self, page: &mut Buffer<N>)
+        requires { 8192 ≤ N }
+        ensures session { self.new.state ≡ closed self.old }
+        ensures text { page.new ≡ end_text self.old }
+    {
+        page.clear();
+        let empty = self.line.is_empty();
+        if !empty {
+            self.end_line(page);
+        }
+        put_closing(self.tally, &self.counts, page);
+    }
 }

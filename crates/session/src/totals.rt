@@ -1,131 +1,99 @@
 // Totals of accepted words, and the lines that close the output.
-ghost use Rattle.std.specs.Prelude.{◌≡◌, ◌+◌, ◌*◌, ◌≤◌, ◌<◌, get_or, length};
-ghost use Rattle.text.specs.Writing.{Put};
-ghost use Rattle.session.specs.Totals.{OneAnswer, added_by, closing, code_line, code_lines, count_of, counted, nothing_added, one_word, rate_of, summed};
+ghost use Rattle.std.specs.Prelude.{◌≡◌, ◌++◌, ◌+◌, ◌*◌, ◌≤◌, ◌<◌, length};
+ghost use Rattle.session.specs.Totals.{OneAnswer, added_by, closing, code_line, code_lines, count_of, one_word, rate_of};
 
 use lines::reply::{Reply, put_code, put_total};
+use std::ops::AddAssign;
+use text::buffer::Buffer;
 
 // Accepted words, their corrected bits and their coded bits.
-#[derive(Clone, Copy)]
+#[derive(Clone, Copy, Debug, Default, PartialEq, Eq)]
 pub struct Tally {
     pub words: u64,
     pub corrected: u64,
     pub coded: u64,
 }
 
-fn nothing_added() -> Tally
-    ensures { (result ≡ nothing_added) × OneAnswer result }
-{
-    Tally {
-        words: 0,
-        corrected: 0,
-        coded: 0,
+impl AddAssign for Tally {
+    ghost use Rattle.std.specs.Prelude.{◌≡◌, ◌+◌, ◌^◌, ◌<◌};
+    ghost use Rattle.session.specs.Totals.{summed};
+
+    ghost can_add_assign = { λ a b. (a.words + b.words < 2 ^ 64) × (a.corrected + b.corrected < 2 ^ 64) × (a.coded + b.coded < 2 ^ 64) };
+
+    ghost add_assign_gives = { λ a b c. c ≡ summed a b };
+
+    #[tactic(auto, unfolding(crate::specs::Totals::summed))]
+    fn add_assign(&mut self, more: Tally) {
+        self.words += more.words;
+        self.corrected += more.corrected;
+        self.coded += more.coded;
     }
 }
 
+#[tactic(auto, unfolding(crate::specs::Totals::one_word))]
 fn one_word(corrected: u16, coded: u64) -> Tally
     requires { coded ≤ 260 }
     ensures { (result ≡ one_word corrected coded) × OneAnswer result }
 {
     Tally {
         words: 1,
-        corrected: corrected as u64,
+        corrected: u64::from(corrected),
         coded,
     }
 }
 
 // What an answer adds to the totals.
+#[tactic(auto, unfolding(crate::specs::Totals::added_by, crate::specs::Totals::nothing_added))]
 pub fn added(reply: Reply) -> Tally
     ensures { (result ≡ added_by reply) × OneAnswer result }
 {
     match reply {
-        Reply::Nothing => nothing_added(),
-        Reply::Pending => nothing_added(),
-        Reply::Refused(_) => nothing_added(),
-        Reply::SacchWord {
-            continuation: _,
-            message: _,
-            corrected,
-            ending: _,
-        } => one_word(corrected, 132),
-        Reply::Discontinuous => nothing_added(),
-        Reply::FacchWord {
-            continuation: _,
-            message: _,
-            corrected,
-            observed: _,
-        } => one_word(corrected, 260),
+        Reply::SacchWord { corrected, .. } => one_word(corrected, 132),
+        Reply::FacchWord { corrected, .. } => one_word(corrected, 260),
+        _ => Tally::default(),
     }
-}
-
-pub fn sum(a: Tally, b: Tally) -> Tally
-    requires { (a.words < 1000000) × (a.corrected ≤ 65535 * a.words) × (a.coded ≤ 260 * a.words) × OneAnswer b }
-    ensures { result ≡ summed a b }
-{
-    Tally {
-        words: a.words + b.words,
-        corrected: a.corrected + b.corrected,
-        coded: a.coded + b.coded,
-    }
-}
-
-// Counts words under a colour code.
-pub fn count(counts: &mut [u32], dvcc: u8, words: u64)
-    requires { (length counts.old ≡ 256) × (get_or counts.old dvcc 0 < 1000000) × (words ≤ 1) }
-    ensures { counts.new ≡ counted counts.old dvcc words }
-{
-    let at = dvcc as usize;
-    counts[at] = counts[at] + words as u32;
 }
 
 // Corrected bits in a thousand coded ones.
+#[tactic(auto, unfolding(crate::specs::Totals::rate_of))]
 fn rate(tally: Tally) -> u64
     requires { tally.corrected ≤ 65535000000 }
     ensures { result ≡ rate_of tally }
 {
-    let coded = tally.coded;
-    if coded == 0 {
-        return 0;
-    }
-    tally.corrected * 1000 / coded
+    (tally.corrected * 1000)
+        .checked_div(tally.coded)
+        .unwrap_or(0)
 }
 
 // The line of a code, where it has words.
-fn put_line(out: &mut [u8], at: usize, dvcc: u8, words: u32) -> usize
-    requires { at + 26 ≤ length out.old }
-    ensures put { Put out.old at (code_line dvcc words) out.new result }
-    ensures upper_bound { result ≤ at + 26 }
+#[tactic(auto, unfolding(crate::specs::Totals::code_line))]
+fn put_line<const N: usize>(dvcc: u8, words: u32, page: &mut Buffer<N>)
+    requires { length page.old + 26 ≤ N }
+    ensures text { page.new ≡ page.old ++ code_line dvcc words }
+    ensures upper_bound { length page.new ≤ length page.old + 26 }
 {
     if words == 0 {
-        return at;
+        return;
     }
-    put_code(out, at, dvcc, words as u64)
+    put_code(page, dvcc, u64::from(words));
 }
 
 // The lines of all codes with words, by code ascending.
-fn put_codes(counts: &[u32], out: &mut [u8], from: usize) -> usize
-    requires { (length counts.now ≡ 256) × (from + 6656 ≤ length out.old) }
-    ensures put { Put out.old from (code_lines (count_of counts.now)) out.new result }
-    ensures upper_bound { result ≤ from + 6656 }
+fn put_codes<const N: usize>(counts: &[u32; 256], page: &mut Buffer<N>)
+    requires { length page.old + 6656 ≤ N }
+    ensures { page.new ≡ page.old ++ code_lines (count_of counts.now) }
 {
-    let mut at = from;
-    let mut dvcc: usize = 0;
-    while dvcc < 256 {
-        let words = counts[dvcc];
-        let code = dvcc as u8;
-        dvcc += 1;
-        at = put_line(out, at, code, words);
+    for (dvcc, words) in counts.iter().enumerate() {
+        put_line(dvcc as u8, *words, page);
     }
-    at
 }
 
 // The closing lines: `T w r`, then the `C` lines.
-pub fn put_closing(tally: Tally, counts: &[u32], out: &mut [u8], at: usize) -> usize
-    requires { (tally.corrected ≤ 65535000000) × (length counts.now ≡ 256) × (at + 6700 ≤ length out.old) }
-    ensures put { Put out.old at (closing tally counts.now) out.new result }
-    ensures upper_bound { result ≤ at + 6700 }
+#[tactic(auto, unfolding(crate::specs::Totals::closing, crate::specs::Totals::total_line))]
+pub fn put_closing<const N: usize>(tally: Tally, counts: &[u32; 256], page: &mut Buffer<N>)
+    requires { (tally.corrected ≤ 65535000000) × (length page.old + 6700 ≤ N) }
+    ensures { page.new ≡ page.old ++ closing tally counts.now }
 {
-    let parts = rate(tally);
-    let next = put_total(out, at, tally.words, parts);
-    put_codes(counts, out, next)
+    put_total(page, tally.words, rate(tally));
+    put_codes(counts, page);
 }

@@ -1,40 +1,29 @@
 -- Blank lines, and what a line is before its form is read. Assumes nothing.
 use mathlib.Core.Path.{◌≡◌, refl, sym, ap, ap₂, subst, ◌∙◌}
-use mathlib.Core.Bool.{Bool, true, false, cond}
+use mathlib.Core.Bool.{Bool, true, false, cond, ◌&&◌}
 use mathlib.Core.List.{List, [], ◌∷◌}
-use Prim.Native.Nat.{ℕ, zero, suc, ◌+◌, ◌<◌, ◌≤◌}
+use Prim.Native.Nat.{ℕ, zero, suc, ◌<◌, ◌≤◌}
 use native.Mathlib.Decide.{dec_lt}
-use native.Mathlib.Numerals.{add-one}
 use native.Mathlib.Omega.{arith}
-use borrow.Author.Tests.{lt-ltb, le-ltb, ltb-false, eq-eqb, eqb-true, ne_eqb}
+use borrow.Author.Tests.{lt-ltb, le-ltb, ltb-false, eqb-true}
 use lib.Dec.{eqb, ltb}
-use lib.ListN.{length, get_or, take, drop, replicate, length-replicate, length-take, drop_of_length-le}
-use lib.Seq.{take_all, drop-cons}
+use lib.ListN.{length, take, replicate, length-replicate, length-take}
+use lib.Seq.{take_all}
+use Rattle.std.specs.List.{list_all}
 use Rattle.bits.proofs.Below.{cond_true}
 use Rattle.text.specs.LineKinds.{ShortBlank, blank, kind_of}
 use Rattle.text.specs.declared.kind.LineKind.{LineKind}
 use Rattle.text.specs.declared.kind.LineKind.TheVariants.{TooLong, Blank, Filled}
 
--- ---- the loop of `is_blank`: the first i characters are spaces
-pub record Spaces (l : List ℕ) (i : ℕ) : Type 0 where
-  pub low : i ≤ length l
-  pub rest : blank l ≡ blank (drop i l)
-
-module _ {l : List ℕ} {i : ℕ} (s : Spaces l i) where
-  at : i < length l → blank l ≡ cond (eqb (get_or l i 0) 32) (blank (drop (i + 1) l)) false
-  unfolding blank
-  at h = s.rest ∙ rw (add-one, drop-cons l i 0 h)
-
-  pub spaces_stop : i < length l → (get_or l i 0 ≡ 32 → ⊥) → false ≡ blank l
-  spaces_stop h n = sym (at h ∙ ap (λ (x : Bool). cond x (blank (drop (i + 1) l)) false) (ne_eqb (get_or l i 0) 32 n))
-
-  pub spaces_more : i < length l → get_or l i 0 ≡ 32 → Spaces l (i + 1)
-  spaces_more h e =
-      record { low = omega arith; rest = at h ∙ ap (λ (x : Bool). cond x (blank (drop (i + 1) l)) false) (eq-eqb (get_or l i 0) 32 e) }
-
-  pub spaces_done : length l ≤ i → true ≡ blank l
-  unfolding blank
-  spaces_done h = sym (s.rest ∙ ap blank (drop_of_length-le l h))
+-- ---- a line is blank where each character is a space
+pub all_spaces : (l : List ℕ) → list_all (λ (b : ℕ). eqb b 32) l ≡ blank l
+unfolding blank
+all_spaces [] = refl
+all_spaces (b ∷ bs) = by (eqb b 32) (all_spaces bs)
+  where
+    by : (t : Bool) → list_all (λ (x : ℕ). eqb x 32) bs ≡ blank bs → (t && list_all (λ (x : ℕ). eqb x 32) bs) ≡ cond t (blank bs) false
+    by true e = e
+    by false e = refl
 
 -- ---- a blank line is so many spaces
 pub spaces_blank : (n : ℕ) → blank (replicate n 32) ≡ true

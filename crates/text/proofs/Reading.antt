@@ -1,49 +1,19 @@
 -- Laws of digits, shapes and bits of a text. Assumes nothing.
 use mathlib.Core.Path.{◌≡◌, refl, sym, ap, ◌∙◌}
-use mathlib.Core.Bool.{Bool, true, false, cond, false≢true}
+use mathlib.Core.Logic.{◌≢◌}
+use mathlib.Core.Bool.{Bool, true, false, cond, false≢true, ◌&&◌}
 use mathlib.Core.List.{List, [], ◌∷◌}
 use Prim.Native.Nat.{ℕ, zero, suc, ◌+◌, ◌-◌, ◌<◌, ◌≤◌}
-use native.Mathlib.Numerals.{add-one}
 use native.Mathlib.Omega.{arith}
 use native.Mathlib.Nat.{not-suc-le-zero, le_of_suc-le-suc}
-use borrow.Author.Tests.{lt-ltb, le-ltb, ltb-true, eq-eqb, ne_eqb}
-use lib.ListN.{length, drop, get_or, drop_of_length-le}
-use lib.Seq.{drop-cons}
-use lib.Dec.{eqb, ltb}
+use borrow.Author.Tests.{ltb-true}
+use lib.ListN.{length, take, drop, get_or, length-drop}
+use lib.Seq.{get_or-drop, take_all}
+use Rattle.std.specs.List.{AllWithin, HoldsAt, list_all, zip}
 use Rattle.bits.proofs.Below.{cond_true}
-use Rattle.text.specs.Lines.{digit_of, shaped, stands}
-
--- ---- a digit, by where the byte lies
-module _ (b : ℕ) where
-  pub digit_1 : b < 48 → 16 ≡ digit_of b
-  unfolding digit_of
-  digit_1 h = rw (lt-ltb b 48 h)
-
-  pub digit_2 : 48 ≤ b → b < 58 → b - 48 ≡ digit_of b
-  unfolding digit_of
-  digit_2 g h = rw (le-ltb b 48 g, lt-ltb b 58 h)
-
-  pub digit_3 : 58 ≤ b → b < 97 → 16 ≡ digit_of b
-  unfolding digit_of
-  digit_3 g h = rw (le-ltb b 48 (omega arith), le-ltb b 58 g, lt-ltb b 97 h)
-
-  pub digit_4 : 97 ≤ b → b < 103 → b - 87 ≡ digit_of b
-  unfolding digit_of
-  digit_4 g h = rw (le-ltb b 48 (omega arith), le-ltb b 58 (omega arith), le-ltb b 97 g, lt-ltb b 103 h)
-
-  pub digit_5 : 103 ≤ b → 16 ≡ digit_of b
-  unfolding digit_of
-  digit_5 g = rw (le-ltb b 48 (omega arith), le-ltb b 58 (omega arith), le-ltb b 97 (omega arith), le-ltb b 103 g)
+use Rattle.text.specs.Lines.{LineEnd, digit_of, shaped, stands}
 
 -- ---- one place of a shape
-pub stands_digit : (p b d : ℕ) → p ≡ 35 → d ≡ digit_of b → ltb d 16 ≡ stands p b
-unfolding stands
-stands_digit p b d e h = rw (eq-eqb p 35 e) (ap (λ (x : ℕ). ltb x 16) h)
-
-pub stands_same : (p b : ℕ) → (p ≡ 35 → ⊥) → eqb b p ≡ stands p b
-unfolding stands
-stands_same p b e = rw (ne_eqb p 35 e)
-
 pub digit_stands : (b : ℕ) → stands 35 b ≡ true → digit_of b < 16
 unfolding stands
 digit_stands b e = ltb-true (digit_of b) 16 e
@@ -71,30 +41,51 @@ not_shaped ps bs h = by (shaped ps bs) refl
     by true e = absurd (h (shaped-length ps bs e))
     by false e = refl
 
--- the loop of `has_shape`: the first i places fit
-pub record Fitting (ps bs : List ℕ) (i : ℕ) : Type 0 where
-  pub long : length ps ≡ length bs
-  pub low : i ≤ length bs
-  pub rest : shaped ps bs ≡ shaped (drop i ps) (drop i bs)
+-- where both are as long, each place is tested
+pub all_stand : (ps bs : List ℕ) → length ps ≡ length bs → list_all (λ (p : ℕ × ℕ). stands p.0 p.1) (zip ps bs) ≡ shaped ps bs
+unfolding shaped
+all_stand [] [] e = refl
+all_stand [] (b ∷ bs) e = absurd (omega arith)
+all_stand (p ∷ ps) [] e = absurd (omega arith)
+all_stand (p ∷ ps) (b ∷ bs) e = by (stands p b) (all_stand ps bs (omega arith))
+  where
+    by : (t : Bool) → list_all (λ (q : ℕ × ℕ). stands q.0 q.1) (zip ps bs) ≡ shaped ps bs
+        → (t && list_all (λ (q : ℕ × ℕ). stands q.0 q.1) (zip ps bs)) ≡ cond t (shaped ps bs) false
+    by true f = f
+    by false f = refl
 
-module _ {ps bs : List ℕ} {i : ℕ} (f : Fitting ps bs i) where
-  at : i < length bs → shaped ps bs ≡ cond (stands (get_or ps i 0) (get_or bs i 0)) (shaped (drop (i + 1) ps) (drop (i + 1) bs)) false
-  unfolding shaped
-  at h =
-      let g : i < length ps = omega (arith, f.long) in
-      f.rest ∙ rw (add-one, drop-cons ps i 0 g, drop-cons bs i 0 h)
+-- ---- where a line ends, by the first LF of the characters from its start on, `rest`
+module _ (text : List ℕ) (from : ℕ) where
+  abbrev pub rest_of : List ℕ
+  rest_of = take (length text - from) (drop from text)
 
-  pub fitting_stops : {t : Bool} → i < length bs → t ≡ stands (get_or ps i 0) (get_or bs i 0) → t ≡ false → false ≡ shaped ps bs
-  fitting_stops h e n = sym (at h ∙ ap (λ (x : Bool). cond x (shaped (drop (i + 1) ps) (drop (i + 1) bs)) false) (sym e ∙ n))
+  module _ (h : from ≤ length text) where
+    whole : rest_of ≡ drop from text
+    whole = take_all (length text - from) (drop from text) (omega (arith, length-drop from text))
 
-  pub fitting_more : {t : Bool} → i < length bs → t ≡ stands (get_or ps i 0) (get_or bs i 0) → t ≡ true → Fitting ps bs (i + 1)
-  fitting_more h e n =
-      record {
-        long = f.long;
-        low = omega arith;
-        rest = at h ∙ ap (λ (x : Bool). cond x (shaped (drop (i + 1) ps) (drop (i + 1) bs)) false) (sym e ∙ n);
-      }
+    there : (k : ℕ) → from ≤ k → get_or rest_of (k - from) 0 ≡ get_or text k 0
+    there k l =
+        let e : from + (k - from) ≡ k = omega arith in
+        ap (λ (xs : List ℕ). get_or xs (k - from) 0) whole ∙ get_or-drop from text (k - from) 0 ∙ ap (λ (i : ℕ). get_or text i 0) e
 
-  pub fitting_done : length bs ≤ i → true ≡ shaped ps bs
-  unfolding shaped
-  fitting_done h = let g : length ps ≤ i = omega (arith, f.long) in sym (f.rest ∙ rw (drop_of_length-le ps g, drop_of_length-le bs h))
+    pub rest_length : length rest_of ≡ length text - from
+    rest_length = ap length whole ∙ length-drop from text
+
+    pub no_lf : AllWithin (λ (b : ℕ). b ≢ 10) rest_of 0 (length rest_of) → LineEnd text from (length text)
+    no_lf p =
+        record {
+          low = h;
+          high = omega arith;
+          inside = λ k a b e. p (k - from) 0 (omega arith) (omega (arith, rest_length)) (there k b ∙ e);
+          stops = λ a. absurd (omega arith);
+        }
+
+    pub lf_at : (end : ℕ) → end < length rest_of → HoldsAt (λ (b : ℕ). b ≡ 10) rest_of end
+        → AllWithin (λ (b : ℕ). b ≢ 10) rest_of 0 end → LineEnd text from (from + end)
+    lf_at end a b p =
+        record {
+          low = omega arith;
+          high = omega (arith, rest_length);
+          inside = λ k c d e. p (k - from) 0 (omega arith) (omega arith) (there k d ∙ e);
+          stops = λ c. sym (ap (λ (xs : List ℕ). get_or xs end 0) whole ∙ get_or-drop from text end 0) ∙ b 0;
+        }

@@ -1,5 +1,4 @@
--- Text by characters and lines (Lines), what a line is before its form is read (LineKinds), numbers as text (Numerals), and what is stored of it in a buffer (Writing).
+-- Text by characters and lines (Lines), what a line is before its form is read (LineKinds), and numbers as text (Numerals).
 pub mod Lines
 pub mod LineKinds
-pub mod Writing
 pub mod Numerals

@@ -2,7 +2,7 @@
 ghost use Rattle.std.specs.Prelude.{◌≡◌};
 ghost use Rattle.text.specs.LineKinds.{blank, kind_of};
 
-#[derive(Clone, Copy)]
+#[derive(Clone, Copy, Debug, PartialEq, Eq)]
 pub enum LineKind {
     // More than 136 characters, whatever they are.
     TooLong,
@@ -16,15 +16,11 @@ pub enum LineKind {
 fn is_blank(line: &[u8]) -> bool
     ensures { result ≡ blank line.now }
 {
-    for i in 0..line.len() {
-        if line[i] != b' ' {
-            return false;
-        }
-    }
-    true
+    line.iter().all(|b| *b == b' ')
 }
 
 // The length goes first: 137 spaces are too long, and not blank.
+#[tactic(auto, unfolding(crate::specs::LineKinds::kind_of))]
 pub fn line_kind(line: &[u8]) -> LineKind
     ensures { result ≡ kind_of line.now }
 {

@@ -1,17 +1,14 @@
--- `text::kind::is_blank` meets its contract: the characters passed are spaces. Assumes nothing.
-use mathlib.Core.Path.{refl}
-use native.Mathlib.Omega.{arith}
-use Rattle.text.proofs.LineKinds.{spaces_stop, spaces_more, spaces_done}
+-- `text::kind::is_blank` meets its contract: each character is a space. Assumes nothing.
+use mathlib.Core.Path.{◌∙◌}
+use borrow.Author.Tests.{tests}
+use lib.Dec.{eqb}
+use Rattle.std.proofs.Common.{rules}
+use Rattle.std.proofs.lemmas.Iterator.{YieldsList-from_slice}
+use Rattle.std.proofs.lemmas.Iterator.Search.{all_from_yields_List}
+use Rattle.text.proofs.LineKinds.{all_spaces}
 use Rattle.text.proofs.kind.is_blank.Goals as goal
 
-pub loop-i-init : goal.loop-i-init
-loop-i-init c = (refl, record { low = omega arith; rest = refl })
-
-pub returns-then-line-i-ne32 : goal.returns-then-line-i-ne32
-returns-then-line-i-ne32 c = spaces_stop c.loop-i.invariant.1 (omega arith) c.if-line-i-ne32.true
-
-pub loop-i-preserved : goal.loop-i-preserved
-loop-i-preserved c = (refl, spaces_more c.loop-i.invariant.1 (omega arith) c.if-line-i-ne32.false)
-
 pub returns : goal.returns
-returns c = spaces_done c.loop-i.invariant.1 (omega arith)
+returns c =
+    all_from_yields_List (λ b. eqb b 32) _ _ _ c.all.ensures.ran (YieldsList-from_slice c.args.line.now cc) (λ x b q k. search (rules, tests))
+    ∙ all_spaces c.args.line.now

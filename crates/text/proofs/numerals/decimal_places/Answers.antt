@@ -1,4 +1,6 @@
 -- `text::numerals::decimal_places` meets its contract: the digits passed are counted. Assumes nothing.
+use mathlib.Core.Path.{◌≡◌, ◌∙◌}
+use native.Mathlib.Omega.{arith}
 use Rattle.text.proofs.Digits.{counted_none, counted_last, counted_end, counted_more}
 use borrow.Author.Rules.{rules}
 use Rattle.text.proofs.numerals.decimal_places.Goals as goal
@@ -13,4 +15,4 @@ pub loop-k-preserved : goal.loop-k-preserved
 loop-k-preserved c = counted_more _ _ _ (search rules) (search rules) c.loop-k.invariant
 
 pub returns : goal.returns
-returns c = (counted_end _ _ _ (search rules) c.loop-k.invariant, search rules)
+returns c = let all : 20 ≡ c.loop-k.k = omega (arith, c.loop-k.invariant.most) in (all ∙ counted_end _ _ _ (search rules) c.loop-k.invariant, search rules)
