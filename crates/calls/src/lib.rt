@@ -3,3 +3,7 @@
 
 pub mod answers;
 pub mod arguments;
+pub mod errors;
+pub mod numerals;
+pub mod rooms;
+pub mod tally;

@@ -1,11 +1,10 @@
 // DCCH. A line has the format, the colour code and whether it is broadcast.
-ghost use Rattle.std.specs.Prelude.{◌≤◌, length};
-
-use bits::wide;
-use calls::answers::{Answer, Kind, one, refused, unknown, wrote};
-use calls::arguments::{asks, at, byte_at, flag_at};
-use dcch::{CrcMode, Decoded};
+use calls::answers::Answer;
+use calls::arguments::Arguments;
+use calls::errors::LineError;
+use dcch::{decode, decode_soft, encode};
 use dcch_interleaver::BlockFormat;
+use std::alloc::{AllocError, Global};
 
 fn format_of(number: u64) -> BlockFormat {
     match number {
@@ -15,73 +14,50 @@ fn format_of(number: u64) -> BlockFormat {
     }
 }
 
-fn decoded(answer: Decoded) -> Answer {
-    match answer {
-        Decoded::Accepted(corrected) => one(Kind::Corrected, corrected as u64),
-        Decoded::Refused(why) => refused(why),
-    }
-}
-
-fn not_finite(byte: u8) -> f64 {
-    if byte == 17 {
-        return 1.0 / 0.0;
-    }
-    if byte == 18 {
-        return -1.0 / 0.0;
-    }
-    0.0 / 0.0
-}
-
 // The reliability that a byte stands for: small and large, subnormal, zeros of either sign; 16 is a NaN, 17 and 18 are the infinities.
 fn reliability(byte: u8) -> f64 {
-    let values = [
-        0.0, -0.0, 1.0, -1.0, 2.5, -2.5, 1e-310, -1e-310, 0.1, -0.1, 3.0, -3.0, 1e308, -1e308,
-        1.7e308, -1.7e308,
-    ];
-    let k = wide(byte);
-    if 15 < k {
-        return not_finite(byte);
+    match byte {
+        0 => 0.0,
+        1 => -0.0,
+        2 => 1.0,
+        3 => -1.0,
+        4 => 2.5,
+        5 => -2.5,
+        6 => 1e-310,
+        7 => -1e-310,
+        8 => 0.1,
+        9 => -0.1,
+        10 => 3.0,
+        11 => -3.0,
+        12 => 1e308,
+        13 => -1e308,
+        14 => 1.7e308,
+        15 => -1.7e308,
+        17 => f64::INFINITY,
+        18 => f64::NEG_INFINITY,
+        _ => f64::NAN,
     }
-    values[k]
 }
 
-fn reliabilities(bytes: &[u8], values: &mut [f64])
-    requires { length bytes.now ≤ length values.old }
-{
-    for i in 0..bytes.len() {
-        values[i] = reliability(bytes[i]);
-    }
+fn reliabilities(alloc: Global, bytes: &[u8]) -> Result<Vec<f64>, AllocError> {
+    bytes.iter().map(|byte| reliability(*byte)).collect(alloc)
 }
 
-fn decode_soft(
-    format: BlockFormat,
-    bytes: &[u8],
-    dvcc: u8,
-    mode: CrcMode,
-    room: &mut [u8],
-) -> Answer
-    requires { length bytes.now ≤ 800 }
-{
-    let mut values = [0.0f64; 800];
-    reliabilities(bytes, &mut values);
-    let n = bytes.len();
-    decoded(dcch::decode_soft(format, &values[0..n], dvcc, mode, room))
-}
-
-pub fn run(call: &[u8], counts: usize, numbers: &[u64], input: &[u8], room: &mut [u8]) -> Answer
-    requires { length input.now ≤ 800 }
-{
-    let format = format_of(at(numbers, 0));
-    let dvcc = byte_at(numbers, 1);
-    let mode = flat_dcch::mode_of(flag_at(numbers, 2));
-    if asks(b"encode", call, counts, 311) {
-        return wrote(dcch::encode(format, input, dvcc, mode, room));
-    }
-    if asks(b"decode", call, counts, 311) {
-        return decoded(dcch::decode(format, input, dvcc, mode, room));
-    }
-    if asks(b"decode_soft", call, counts, 311) {
-        return decode_soft(format, input, dvcc, mode, room);
-    }
-    unknown()
+// `encode`, `decode` and `decode_soft`, each FORMAT DVCC BROADCAST READ WRITTEN.
+pub fn run(alloc: Global, call: &str, arguments: &mut Arguments) -> Result<Answer, LineError> {
+    let (numbers, inputs, rooms) = arguments.parts();
+    let ([format, dvcc, broadcast], [input], [room]) = (numbers, inputs, rooms) else {
+        return Err(LineError::NoCall);
+    };
+    let format = format_of(*format);
+    let dvcc = u8::try_from(*dvcc)?;
+    let mode = flat_dcch::mode_of(*broadcast != 0);
+    let room = room.bytes.as_mut_slice();
+    let decoded = match call {
+        "encode" => return Ok(encode(format, input, dvcc, mode, room).into()),
+        "decode" => decode(format, input, dvcc, mode, room),
+        "decode_soft" => decode_soft(format, &reliabilities(alloc, input)?, dvcc, mode, room),
+        _ => return Err(LineError::NoCall),
+    };
+    Ok(decoded.map(Answer::Corrected).into())
 }

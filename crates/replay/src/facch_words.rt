@@ -1,18 +1,16 @@
 // FACCH.
-use calls::answers::{Answer, refused, unknown, word, wrote};
-use calls::arguments::{asks, at, byte_at, flag_at};
-use facch::Decoded;
+use calls::answers::Answer;
+use calls::arguments::Arguments;
+use calls::errors::LineError;
+use facch::{FacchWord, decode, decode_erased, encode};
 use facch_interleaver::{WordHalf, deinterleave, interleave, observe_half};
 
-fn decoded(answer: Decoded) -> Answer {
-    match answer {
-        Decoded::Accepted {
-            continuation,
-            message,
-            corrected,
-            observed,
-        } => word(continuation, message, corrected, observed as u64),
-        Decoded::Refused(why) => refused(why),
+fn word(word: FacchWord) -> Answer {
+    Answer::Word {
+        continuation: word.continuation,
+        message: word.message,
+        corrected: word.corrected,
+        last: word.observed,
     }
 }
 
@@ -24,32 +22,29 @@ fn half_of(number: u64) -> WordHalf {
     }
 }
 
-// `encode CONTINUATION MESSAGE DVCC CODED`, `decode DVCC CODED`, `decode_erased DVCC CODED`.
-pub fn run(call: &[u8], counts: usize, numbers: &[u64], input: &[u8], room: &mut [u8]) -> Answer {
-    if asks(b"encode", call, counts, 301) {
-        let message = at(numbers, 1);
-        let dvcc = byte_at(numbers, 2);
-        return wrote(facch::encode(flag_at(numbers, 0), message, dvcc, room));
-    }
-    if asks(b"decode", call, counts, 110) {
-        return decoded(facch::decode(input, byte_at(numbers, 0)));
-    }
-    if asks(b"decode_erased", call, counts, 110) {
-        return decoded(facch::decode_erased(input, byte_at(numbers, 0)));
-    }
-    if asks(b"observe_half", call, counts, 111) {
-        return wrote(observe_half(input, half_of(at(numbers, 0)), room));
-    }
-    unknown()
-}
-
+// `encode CONTINUATION MESSAGE DVCC CODED`, `decode DVCC CODED`, `decode_erased DVCC CODED`, `observe_half HALF SLOT CODED`,
 // `interleave PREVIOUS CURRENT SLOT`, `deinterleave FIRST SECOND CODED`.
-pub fn slots(call: &[u8], counts: usize, first: &[u8], second: &[u8], room: &mut [u8]) -> Answer {
-    if asks(b"interleave", call, counts, 21) {
-        return wrote(interleave(first, second, room));
-    }
-    if asks(b"deinterleave", call, counts, 21) {
-        return wrote(deinterleave(first, second, room));
-    }
-    unknown()
+pub fn run(call: &str, arguments: &mut Arguments) -> Result<Answer, LineError> {
+    let (numbers, inputs, rooms) = arguments.parts();
+    let answer = match (call, numbers, inputs, rooms) {
+        ("encode", [continuation, message, dvcc], [], [room]) => {
+            let dvcc = u8::try_from(*dvcc)?;
+            encode(*continuation != 0, *message, dvcc, &mut room.bytes).into()
+        }
+        ("decode", [dvcc], [input], []) => decode(input, u8::try_from(*dvcc)?).map(word).into(),
+        ("decode_erased", [dvcc], [input], []) => {
+            decode_erased(input, u8::try_from(*dvcc)?).map(word).into()
+        }
+        ("observe_half", [half], [input], [room]) => {
+            observe_half(input, half_of(*half), &mut room.bytes).into()
+        }
+        ("interleave", [], [previous, current], [room]) => {
+            interleave(previous, current, &mut room.bytes).into()
+        }
+        ("deinterleave", [], [first, second], [room]) => {
+            deinterleave(first, second, &mut room.bytes).into()
+        }
+        _ => return Err(LineError::NoCall),
+    };
+    Ok(answer)
 }

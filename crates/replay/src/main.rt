@@ -11,107 +11,51 @@ mod records;
 mod sacch_words;
 mod speech_frames;
 mod steps;
+mod told;
 
-use calls::answers::{Tally, is_known, print_tally, write};
-use calls::arguments::put;
-use lending::{Outcome, turn};
+use calls::arguments::Arguments;
+use calls::errors::LineError;
+use calls::tally::Tally;
+use lending::Line;
+use std::alloc::Global;
 use std::io;
-use std::num::wrapping_add_usize;
-use text::has_shape;
+use std::io::{BufRead, BufReader, BufWriter, Write};
 
-// Counts the answers to every turn of a line; the first turn is over.
-fn sweep<W: io::Write>(out: &mut W, line: &[u8], first: Outcome) -> io::Result<()> {
-    let mut counts = Tally::new().with(first.answer, first.untouched);
-    for k in 1..first.turns {
-        let next = turn(out, line, k)?;
-        counts = counts.with(next.answer, next.untouched);
+// Counts the answers to every turn of a line.
+fn sweep(alloc: Global, line: Line<'_>, turns: usize) -> Result<Tally, LineError> {
+    let mut tally = Tally::default();
+    for turn in 0..turns {
+        let told = line.call(alloc, turn)?;
+        tally.count(told.answer, told.is_untouched());
     }
-    print_tally(out, counts)
+    Ok(tally)
 }
 
-fn answer_call<W: io::Write>(out: &mut W, line: &[u8]) -> io::Result<()> {
-    let first = turn(out, line, 0)?;
-    if !is_known(first.answer) {
-        write(out, b"? ")?;
-        return write(out, line);
-    }
-    if 0 < first.turns {
-        sweep(out, line, first)?;
-    }
-    Ok(())
+fn answer(alloc: Global, text: &str) -> Result<String, LineError> {
+    let line = Line::split(text)?;
+    let told = match Arguments::read(alloc, line.arguments, 0)?.turns {
+        Some(turns) => sweep(alloc, line, turns)?.to_string(alloc)?,
+        None => line.call(alloc, 0)?.to_string(alloc)?,
+    };
+    Ok(told)
 }
 
-fn is_comment(line: &[u8]) -> bool {
-    if line.len() < 2 {
-        return false;
+fn answer_line<W: Write>(alloc: Global, out: &mut W, line: &str) -> io::Result<()> {
+    if line.starts_with("//") {
+        return writeln!(out, "{line}");
     }
-    has_shape(b"//", &line[0..2])
-}
-
-fn answer_line<W: io::Write>(out: &mut W, line: &[u8]) -> io::Result<()> {
-    if is_comment(line) {
-        write(out, line)?;
-    } else {
-        answer_call(out, line)?;
-    }
-    write(out, b"\n")
-}
-
-// The line that is gathered; one that is too long is no call.
-fn end_line<W: io::Write>(out: &mut W, line: &[u8], n: usize) -> io::Result<()> {
-    if n <= line.len() {
-        answer_line(out, &line[0..n])
-    } else {
-        write(out, b"? a line that is too long\n")
+    match answer(alloc, line) {
+        Ok(told) => writeln!(out, "{told}"),
+        Err(LineError::NoCall) => writeln!(out, "? {line}"),
+        Err(LineError::OutOfMemory) => Err(io::Error::from(io::ErrorKind::OutOfMemory)),
     }
 }
 
-// One more byte of a line, of which there are n. Answers how many there are then.
-fn take_byte<W: io::Write>(out: &mut W, line: &mut [u8], n: usize, byte: u8) -> io::Result<usize> {
-    if byte == b'\n' {
-        end_line(out, line, n)?;
-        return Ok(0);
-    }
-    put(line, n, byte);
-    Ok(wrapping_add_usize(n, 1))
-}
-
-fn take_piece<W: io::Write>(
-    out: &mut W,
-    piece: &[u8],
-    line: &mut [u8],
-    before: usize,
-) -> io::Result<usize> {
-    let mut n = before;
-    for i in 0..piece.len() {
-        n = take_byte(out, line, n, piece[i])?;
-    }
-    Ok(n)
-}
-
-// Nothing says that an input ends, so the pieces are counted.
-fn answer_all<R: io::Read, W: io::Write>(
-    input: &mut R,
-    out: &mut W,
-    piece: &mut [u8],
-    line: &mut [u8],
-) -> io::Result<()> {
-    let mut n = 0;
-    for _ in 0..u64::MAX {
-        let got = input.read(piece)?;
-        if got == 0 {
-            break;
-        }
-        n = take_piece(out, &piece[..got], line, n)?;
-    }
-    Ok(())
-}
-
-// No line is longer than 2048 bytes. Answers are written as they come: a buffer of std's would be allocated, and memory may run out.
 fn main(rt: HostRuntime) -> io::Result<()> {
-    let mut piece = [0u8; 65536];
-    let mut line = [0u8; 2048];
-    let mut input = rt.reader();
-    let mut out = io::writer(&rt);
-    answer_all(&mut input, &mut out, &mut piece, &mut line)
+    let alloc = rt.alloc();
+    let mut out = BufWriter::new(alloc, io::writer(&rt))?;
+    for line in BufReader::new(alloc, rt.reader())?.lines(alloc) {
+        answer_line(alloc, &mut out, line?.as_str())?;
+    }
+    out.flush()
 }

@@ -1,160 +1,135 @@
-// The records of SACCH as numbers of a line. Encoder: memory, twelve rows, cursor. Deinterleaver: twelve fields, cursor, how many were received. Receiver: twelve fields, their cursor, how many were received, eleven rows,
-// their cursor, how many are available, phase, and the locked phase or 100 (256) for none.
-use calls::answers::{part, write};
-use calls::arguments::{at, byte_at, put_number, u16_at};
+// The records of SACCH as numbers of a line. Encoder: memory, twelve rows, cursor. Deinterleaver: twelve fields, cursor, how many were received. Receiver: its
+// deinterleaver, eleven rows, their cursor, how many are available, phase, and the locked phase or 100 (256) for none.
+use calls::errors::LineError;
 use sacch_encoder::SacchEncoder;
 use sacch_interleaver::SacchDeinterleaver;
-use sacch_receiver::{Lock, SacchReceiver};
-use std::io;
-use std::num::wrapping_add_usize;
+use sacch_receiver::SacchReceiver;
+use std::alloc::{AllocError, Global};
+use std::fmt;
 
 const UNLOCKED: u64 = 256;
 
-fn twelve(numbers: &[u64], from: usize) -> [u16; 12] {
-    let mut list = [0u16; 12];
-    for i in 0..12usize {
-        list[i] = u16_at(numbers, wrapping_add_usize(from, i));
-    }
-    list
+pub trait Record {
+    // The record of so many numbers.
+    fn of(numbers: &[u64]) -> Result<Self, LineError>
+    where
+        Self: Sized;
+
+    fn write_to(&self, numbers: &mut Vec<u64>) -> Result<(), AllocError>;
 }
 
-fn eleven(numbers: &[u64], from: usize) -> [u16; 11] {
-    let mut list = [0u16; 11];
-    for i in 0..11usize {
-        list[i] = u16_at(numbers, wrapping_add_usize(from, i));
+// Rows or fields.
+fn list<const N: usize>(numbers: &[u64]) -> Result<[u16; N], LineError> {
+    if numbers.len() != N {
+        return Err(LineError::NoCall);
     }
-    list
+    let mut list = [0; N];
+    for (place, number) in list.iter_mut().zip(numbers) {
+        *place = u16::try_from(*number)?;
+    }
+    Ok(list)
 }
 
-pub fn encoder_of(numbers: &[u64], from: usize) -> SacchEncoder {
-    let rows = twelve(numbers, wrapping_add_usize(from, 1));
-    SacchEncoder {
-        memory: byte_at(numbers, from),
-        rows,
-        cursor: at(numbers, wrapping_add_usize(from, 13)) as usize,
+fn write_list(list: &[u16], numbers: &mut Vec<u64>) -> Result<(), AllocError> {
+    numbers.extend(list.iter().map(|number| u64::from(*number)))
+}
+
+impl Record for SacchEncoder {
+    fn of(numbers: &[u64]) -> Result<SacchEncoder, LineError> {
+        let [memory, rows @ .., cursor] = numbers else {
+            return Err(LineError::NoCall);
+        };
+        Ok(SacchEncoder {
+            memory: u8::try_from(*memory)?,
+            rows: list(rows)?,
+            cursor: usize::try_from(*cursor)?,
+        })
+    }
+
+    fn write_to(&self, numbers: &mut Vec<u64>) -> Result<(), AllocError> {
+        numbers.push(u64::from(self.memory))?;
+        write_list(&self.rows, numbers)?;
+        numbers.push(self.cursor as u64)?;
+        Ok(())
     }
 }
 
-pub fn deinterleaver_of(numbers: &[u64], from: usize) -> SacchDeinterleaver {
-    let fields = twelve(numbers, from);
-    SacchDeinterleaver {
-        fields,
-        cursor: at(numbers, wrapping_add_usize(from, 12)) as usize,
-        received: at(numbers, wrapping_add_usize(from, 13)) as usize,
+impl Record for SacchDeinterleaver {
+    fn of(numbers: &[u64]) -> Result<SacchDeinterleaver, LineError> {
+        let [fields @ .., cursor, received] = numbers else {
+            return Err(LineError::NoCall);
+        };
+        Ok(SacchDeinterleaver {
+            fields: list(fields)?,
+            cursor: usize::try_from(*cursor)?,
+            received: usize::try_from(*received)?,
+        })
+    }
+
+    fn write_to(&self, numbers: &mut Vec<u64>) -> Result<(), AllocError> {
+        write_list(&self.fields, numbers)?;
+        numbers.push(self.cursor as u64)?;
+        numbers.push(self.received as u64)?;
+        Ok(())
     }
 }
 
-fn lock_of(number: u64) -> Lock {
+fn locked_phase(number: u64) -> Result<Option<u8>, LineError> {
     if number == UNLOCKED {
-        return Lock::Unlocked;
+        return Ok(None);
     }
-    Lock::Locked((number % 256) as u8)
+    Ok(Some(u8::try_from(number)?))
 }
 
-fn lock_number(lock: Lock) -> u64 {
-    match lock {
-        Lock::Unlocked => UNLOCKED,
-        Lock::Locked(phase) => phase as u64,
+impl Record for SacchReceiver {
+    fn of(numbers: &[u64]) -> Result<SacchReceiver, LineError> {
+        let Some((deinterleaver, rest)) = numbers.split_at_checked(14) else {
+            return Err(LineError::NoCall);
+        };
+        let [rows @ .., row_cursor, available, phase, locked] = rest else {
+            return Err(LineError::NoCall);
+        };
+        Ok(SacchReceiver {
+            deinterleaver: SacchDeinterleaver::of(deinterleaver)?,
+            rows: list(rows)?,
+            row_cursor: usize::try_from(*row_cursor)?,
+            available: usize::try_from(*available)?,
+            phase: u8::try_from(*phase)?,
+            locked_phase: locked_phase(*locked)?,
+        })
     }
-}
 
-pub fn receiver_of(numbers: &[u64], from: usize) -> SacchReceiver {
-    let fields = twelve(numbers, from);
-    let rows = eleven(numbers, wrapping_add_usize(from, 14));
-    let lock = lock_of(at(numbers, wrapping_add_usize(from, 28)));
-    SacchReceiver {
-        fields,
-        field_cursor: at(numbers, wrapping_add_usize(from, 12)) as usize,
-        received: at(numbers, wrapping_add_usize(from, 13)) as usize,
-        rows,
-        row_cursor: at(numbers, wrapping_add_usize(from, 25)) as usize,
-        available: at(numbers, wrapping_add_usize(from, 26)) as usize,
-        phase: byte_at(numbers, wrapping_add_usize(from, 27)),
-        lock,
-    }
-}
-
-fn wide(x: u16) -> u64 {
-    x as u64
-}
-
-// A list of a record from a place on.
-pub fn put(list: &[u16], out: &mut [u64], from: usize) {
-    for i in 0..list.len() {
-        put_number(out, wrapping_add_usize(from, i), wide(list[i]));
+    fn write_to(&self, numbers: &mut Vec<u64>) -> Result<(), AllocError> {
+        self.deinterleaver.write_to(numbers)?;
+        write_list(&self.rows, numbers)?;
+        numbers.push(self.row_cursor as u64)?;
+        numbers.push(self.available as u64)?;
+        numbers.push(u64::from(self.phase))?;
+        numbers.push(self.locked_phase.map_or(UNLOCKED, u64::from))?;
+        Ok(())
     }
 }
 
-pub fn print_numbers<W: io::Write>(out: &mut W, numbers: &[u64]) -> io::Result<()> {
-    for i in 0..numbers.len() {
-        part(out, numbers[i])?;
-    }
-    Ok(())
-}
+// Numbers, each behind a space.
+#[derive(Clone, Copy, Debug)]
+pub struct Numbers<'a>(pub &'a [u64]);
 
-// Whether a record is the one of the line.
-fn kept(now: &[u64], numbers: &[u64], from: usize) -> bool {
-    for i in 0..now.len() {
-        if now[i] != at(numbers, wrapping_add_usize(from, i)) {
-            return false;
+impl fmt::Display for Numbers<'_> {
+    fn fmt<W: fmt::Write>(&self, f: &mut fmt::Formatter<W>) -> fmt::Result {
+        for number in self.0 {
+            write!(f, " {number:x}")?;
         }
+        Ok(())
     }
-    true
 }
 
-fn show<W: io::Write>(out: &mut W, now: &[u64], numbers: &[u64], from: usize) -> io::Result<()> {
-    if kept(now, numbers, from) {
-        return write(out, b" kept");
+// What became of the record that a line has: it is told where it is not as before.
+pub fn became<R: Record>(alloc: Global, before: &[u64], record: &R) -> Result<String, AllocError> {
+    let mut numbers = Vec::new(alloc);
+    record.write_to(&mut numbers)?;
+    if numbers.as_slice() == before {
+        return String::from_str(alloc, "kept");
     }
-    write(out, b" now")?;
-    print_numbers(out, now)
-}
-
-pub fn show_encoder<W: io::Write>(
-    out: &mut W,
-    encoder: SacchEncoder,
-    numbers: &[u64],
-    from: usize,
-) -> io::Result<()> {
-    let rows = encoder.rows;
-    let mut now = [0u64; 14];
-    now[0] = encoder.memory as u64;
-    now[13] = encoder.cursor as u64;
-    put(&rows, &mut now, 1);
-    show(out, &now, numbers, from)
-}
-
-pub fn show_deinterleaver<W: io::Write>(
-    out: &mut W,
-    deinterleaver: SacchDeinterleaver,
-    numbers: &[u64],
-    from: usize,
-) -> io::Result<()> {
-    let fields = deinterleaver.fields;
-    let mut now = [0u64; 14];
-    now[12] = deinterleaver.cursor as u64;
-    now[13] = deinterleaver.received as u64;
-    put(&fields, &mut now, 0);
-    show(out, &now, numbers, from)
-}
-
-pub fn show_receiver<W: io::Write>(
-    out: &mut W,
-    receiver: SacchReceiver,
-    numbers: &[u64],
-    from: usize,
-) -> io::Result<()> {
-    let fields = receiver.fields;
-    let rows = receiver.rows;
-    let lock = receiver.lock;
-    let mut now = [0u64; 29];
-    now[12] = receiver.field_cursor as u64;
-    now[13] = receiver.received as u64;
-    now[25] = receiver.row_cursor as u64;
-    now[26] = receiver.available as u64;
-    now[27] = receiver.phase as u64;
-    now[28] = lock_number(lock);
-    put(&fields, &mut now, 0);
-    put(&rows, &mut now, 14);
-    show(out, &now, numbers, from)
+    let numbers = Numbers(&numbers);
+    format!(in alloc; "now{numbers}")
 }

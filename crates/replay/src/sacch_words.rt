@@ -1,193 +1,211 @@
 // SACCH: words, and the records of encoder, deinterleaver and receiver, which are numbers of a line.
 use crate::lent::lent;
-use crate::records::{
-    deinterleaver_of, encoder_of, print_numbers, put, receiver_of, show_deinterleaver,
-    show_encoder, show_receiver,
-};
-use calls::answers::{Answer, Kind, one, part, print, refused, said, unknown, word, write, wrote};
-use calls::arguments::{asks, at, byte_at, flag_at, u16_at};
-use sacch_decoder::{Decoded, SacchWord};
-use sacch_encoder::{EncodedField, EncodedWord};
-use sacch_interleaver::{PushedRow, RowOutcome};
-use sacch_receiver::{Heard, Pushed, PushedWord, ReceiveOutcome};
-use std::io;
+use crate::records::{Numbers, Record, became};
+use crate::told::Told;
+use calls::answers::Answer;
+use calls::arguments::Arguments;
+use calls::errors::LineError;
+use sacch_decoder::SacchWord;
+use sacch_encoder::SacchEncoder;
+use sacch_interleaver::SacchDeinterleaver;
+use sacch_receiver::{ReceiveOutcome, SacchReceiver};
+use std::alloc::Global;
 
-fn of_word(w: SacchWord) -> Answer {
-    word(w.continuation, w.message, w.corrected, w.ending as u64)
+fn word(word: SacchWord) -> Answer {
+    Answer::Word {
+        continuation: word.continuation,
+        message: word.message,
+        corrected: word.corrected,
+        last: u16::from(word.ending),
+    }
 }
 
 // `decode DVCC CODED`.
-pub fn run(call: &[u8], counts: usize, numbers: &[u64], input: &[u8]) -> Answer {
-    if !asks(b"decode", call, counts, 110) {
-        return unknown();
-    }
-    match sacch_decoder::decode(input, byte_at(numbers, 0)) {
-        Decoded::Accepted(w) => of_word(w),
-        Decoded::Refused(why) => refused(why),
-    }
-}
-
-fn of_outcome(outcome: ReceiveOutcome) -> Answer {
-    match outcome {
-        ReceiveOutcome::Pending => said(Kind::Pending, 0, [0; 5]),
-        ReceiveOutcome::Word(w) => of_word(w),
-        ReceiveOutcome::Rejected(why) => one(Kind::Rejected, bits::refusals::number(why) as u64),
-        ReceiveOutcome::Refused(why) => refused(why),
+pub fn run(call: &str, arguments: &mut Arguments) -> Result<Answer, LineError> {
+    let (numbers, inputs, rooms) = arguments.parts();
+    match (call, numbers, inputs, rooms) {
+        ("decode", [dvcc], [coded], []) => {
+            Ok(
+                sacch_decoder::decode(coded, u8::try_from(*dvcc)?)
+                    .map(word)
+                    .into(),
+            )
+        }
+        _ => Err(LineError::NoCall),
     }
 }
 
-fn of_heard(heard: Heard) -> Answer {
-    match heard {
-        Heard::Nothing => said(Kind::Pending, 0, [0; 5]),
-        Heard::Word(w) => of_word(w),
-        Heard::Refused(why) => refused(why),
+// An answer, and what became of the record.
+fn told<R: Record>(
+    alloc: Global,
+    answer: Answer,
+    before: &[u64],
+    record: &R,
+) -> Result<Told, LineError> {
+    Ok(Told {
+        answer,
+        record: Some(became(alloc, before, record)?),
+        rooms: Vec::new(alloc),
+    })
+}
+
+// What an encoder answered, the fields that it sent, and what became of it.
+fn told_sent(
+    alloc: Global,
+    answer: Answer,
+    fields: &[u64],
+    before: &[u64],
+    encoder: &SacchEncoder,
+) -> Result<Told, LineError> {
+    let became = became(alloc, before, encoder)?;
+    let fields = Numbers(fields);
+    Ok(Told {
+        answer,
+        record: Some(format!(in alloc; "sent{fields} {became}")?),
+        rooms: Vec::new(alloc),
+    })
+}
+
+// A refused call sends nothing, which is told as zeros.
+fn encode_bits(alloc: Global, six: u8, before: &[u64]) -> Result<Told, LineError> {
+    let mut encoder = SacchEncoder::of(before)?;
+    let sent = encoder.encode_bits(six);
+    let field = sent.unwrap_or(0);
+    told_sent(
+        alloc,
+        sent.map(|_| Answer::Done).into(),
+        &[u64::from(field)],
+        before,
+        &encoder,
+    )
+}
+
+fn encode_word(
+    alloc: Global,
+    continuation: bool,
+    message: u64,
+    dvcc: u8,
+    before: &[u64],
+) -> Result<Told, LineError> {
+    let mut encoder = SacchEncoder::of(before)?;
+    let sent = encoder.encode_word(continuation, message, dvcc);
+    let fields = sent.unwrap_or([0; 11]);
+    told_sent(
+        alloc,
+        sent.map(|_| Answer::Done).into(),
+        &fields.map(u64::from),
+        before,
+        &encoder,
+    )
+}
+
+// `encode_bits SIX`, `encode_word CONTINUATION MESSAGE DVCC` and `reset`, each before an encoder.
+fn encoder_call(alloc: Global, call: &str, numbers: &[u64]) -> Result<Told, LineError> {
+    match (call, numbers) {
+        ("encode_bits", [six, before @ ..]) => encode_bits(alloc, u8::try_from(*six)?, before),
+        ("encode_word", [continuation, message, dvcc, before @ ..]) => {
+            let dvcc = u8::try_from(*dvcc)?;
+            encode_word(alloc, *continuation != 0, *message, dvcc, before)
+        }
+        ("reset", before) => {
+            let mut encoder = SacchEncoder::of(before)?;
+            encoder.reset();
+            told(alloc, Answer::Done, before, &encoder)
+        }
+        _ => Err(LineError::NoCall),
     }
-}
-
-fn show_pushed<W: io::Write>(out: &mut W, pushed: Pushed, numbers: &[u64]) -> io::Result<()> {
-    let outcome = pushed.outcome;
-    let receiver = pushed.receiver;
-    print(out, of_outcome(outcome))?;
-    show_receiver(out, receiver, numbers, 2)
-}
-
-fn show_push<W: io::Write>(out: &mut W, pushed: PushedWord, numbers: &[u64]) -> io::Result<()> {
-    let heard = pushed.heard;
-    let receiver = pushed.receiver;
-    print(out, of_heard(heard))?;
-    show_receiver(out, receiver, numbers, 2)
-}
-
-fn show_field<W: io::Write>(out: &mut W, sent: EncodedField, numbers: &[u64]) -> io::Result<()> {
-    let outcome = sent.outcome;
-    let encoder = sent.encoder;
-    print(out, wrote(outcome))?;
-    write(out, b" sent")?;
-    part(out, sent.field as u64)?;
-    show_encoder(out, encoder, numbers, 1)
-}
-
-fn show_fields<W: io::Write>(out: &mut W, sent: EncodedWord, numbers: &[u64]) -> io::Result<()> {
-    let outcome = sent.outcome;
-    let encoder = sent.encoder;
-    let fields = sent.fields;
-    let mut list = [0u64; 11];
-    put(&fields, &mut list, 0);
-    print(out, wrote(outcome))?;
-    write(out, b" sent")?;
-    print_numbers(out, &list)?;
-    show_encoder(out, encoder, numbers, 3)
-}
-
-// `encode_bits SIX`, `encode_word CONTINUATION MESSAGE DVCC` and `reset`, each before an encoder. Answers whether it was one of them.
-fn encoder_call<W: io::Write>(
-    out: &mut W,
-    call: &[u8],
-    counts: usize,
-    numbers: &[u64],
-) -> io::Result<bool> {
-    if asks(b"encode_bits", call, counts, 1500) {
-        let encoder = encoder_of(numbers, 1);
-        show_field(out, encoder.encode_bits(byte_at(numbers, 0)), numbers)?;
-        return Ok(true);
-    }
-    if asks(b"encode_word", call, counts, 1700) {
-        let encoder = encoder_of(numbers, 3);
-        let message = at(numbers, 1);
-        let dvcc = byte_at(numbers, 2);
-        let sent = encoder.encode_word(flag_at(numbers, 0), message, dvcc);
-        show_fields(out, sent, numbers)?;
-        return Ok(true);
-    }
-    if asks(b"reset", call, counts, 1400) {
-        let encoder = encoder_of(numbers, 0);
-        write(out, b"done")?;
-        show_encoder(out, encoder.reset(), numbers, 0)?;
-        return Ok(true);
-    }
-    Ok(false)
-}
-
-fn of_row(outcome: RowOutcome) -> Answer {
-    match outcome {
-        RowOutcome::Pending => said(Kind::Pending, 0, [0; 5]),
-        RowOutcome::Row(row) => one(Kind::Value, row as u64),
-        RowOutcome::Refused(why) => refused(why),
-    }
-}
-
-fn show_row<W: io::Write>(out: &mut W, pushed: PushedRow, numbers: &[u64]) -> io::Result<()> {
-    let outcome = pushed.outcome;
-    let deinterleaver = pushed.deinterleaver;
-    print(out, of_row(outcome))?;
-    show_deinterleaver(out, deinterleaver, numbers, 1)
 }
 
 // `deinterleave FIELD` and `reset_deinterleaver`, each before a deinterleaver.
-fn deinterleaver_call<W: io::Write>(
-    out: &mut W,
-    call: &[u8],
-    counts: usize,
-    numbers: &[u64],
-) -> io::Result<bool> {
-    if asks(b"deinterleave", call, counts, 1500) {
-        let deinterleaver = deinterleaver_of(numbers, 1);
-        show_row(out, deinterleaver.push(u16_at(numbers, 0)), numbers)?;
-        return Ok(true);
+fn deinterleaver_call(alloc: Global, call: &str, numbers: &[u64]) -> Result<Told, LineError> {
+    match (call, numbers) {
+        ("deinterleave", [field, before @ ..]) => {
+            let mut deinterleaver = SacchDeinterleaver::of(before)?;
+            let row = deinterleaver.push(u16::try_from(*field)?);
+            let answer = row.map(|row| row.map_or(Answer::Pending, Answer::Value));
+            told(alloc, answer.into(), before, &deinterleaver)
+        }
+        ("reset_deinterleaver", before) => {
+            let mut deinterleaver = SacchDeinterleaver::of(before)?;
+            deinterleaver.reset();
+            told(alloc, Answer::Done, before, &deinterleaver)
+        }
+        _ => Err(LineError::NoCall),
     }
-    if asks(b"reset_deinterleaver", call, counts, 1400) {
-        let deinterleaver = deinterleaver_of(numbers, 0);
-        write(out, b"done")?;
-        show_deinterleaver(out, deinterleaver.reset(), numbers, 0)?;
-        return Ok(true);
+}
+
+fn outcome(outcome: ReceiveOutcome) -> Answer {
+    match outcome {
+        ReceiveOutcome::Pending => Answer::Pending,
+        ReceiveOutcome::Word(heard) => word(heard),
+        ReceiveOutcome::Rejected(why) => Answer::Rejected(why),
     }
-    Ok(false)
+}
+
+// `pushed`, `push_outcome` and `push`.
+fn push(
+    alloc: Global,
+    call: &str,
+    field: u16,
+    dvcc: u8,
+    before: &[u64],
+) -> Result<Told, LineError> {
+    let mut receiver = SacchReceiver::of(before)?;
+    let (answer, after) = match call {
+        "pushed" => {
+            let pushed = receiver.pushed(field, dvcc);
+            (pushed.outcome.map(outcome), pushed.receiver)
+        }
+        "push_outcome" => {
+            let pushed = lent(receiver, field, dvcc);
+            (pushed.outcome.map(outcome), pushed.receiver)
+        }
+        "push" => {
+            let heard = receiver.push(field, dvcc);
+            (
+                heard.map(|heard| heard.map_or(Answer::Pending, word)),
+                receiver,
+            )
+        }
+        _ => return Err(LineError::NoCall),
+    };
+    told(alloc, answer.into(), before, &after)
 }
 
 // `pushed FIELD DVCC`, so for `push_outcome` and `push`, and `discontinuity`, each before a receiver.
-fn receiver_call<W: io::Write>(
-    out: &mut W,
-    call: &[u8],
-    counts: usize,
-    numbers: &[u64],
-) -> io::Result<bool> {
-    let field = u16_at(numbers, 0);
-    let dvcc = byte_at(numbers, 1);
-    if asks(b"pushed", call, counts, 3100) {
-        let receiver = receiver_of(numbers, 2);
-        show_pushed(out, receiver.pushed(field, dvcc), numbers)?;
-        return Ok(true);
+fn receiver_call(alloc: Global, call: &str, numbers: &[u64]) -> Result<Told, LineError> {
+    match (call, numbers) {
+        ("discontinuity", before) => {
+            let mut receiver = SacchReceiver::of(before)?;
+            receiver.discontinuity();
+            told(alloc, Answer::Done, before, &receiver)
+        }
+        (_, [field, dvcc, before @ ..]) => {
+            push(
+                alloc,
+                call,
+                u16::try_from(*field)?,
+                u8::try_from(*dvcc)?,
+                before,
+            )
+        }
+        _ => Err(LineError::NoCall),
     }
-    if asks(b"push_outcome", call, counts, 3100) {
-        show_pushed(out, lent(receiver_of(numbers, 2), field, dvcc), numbers)?;
-        return Ok(true);
-    }
-    if asks(b"push", call, counts, 3100) {
-        let receiver = receiver_of(numbers, 2);
-        show_push(out, receiver.push(field, dvcc), numbers)?;
-        return Ok(true);
-    }
-    if asks(b"discontinuity", call, counts, 2900) {
-        let receiver = receiver_of(numbers, 0);
-        write(out, b"done")?;
-        show_receiver(out, receiver.discontinuity(), numbers, 0)?;
-        return Ok(true);
-    }
-    Ok(false)
 }
 
-// The calls over records print their answers themselves.
-pub fn over_record<W: io::Write>(
-    out: &mut W,
-    call: &[u8],
-    counts: usize,
-    numbers: &[u64],
-) -> io::Result<bool> {
-    if encoder_call(out, call, counts, numbers)? {
-        return Ok(true);
+// The calls over records have numbers alone.
+pub fn over_record(
+    alloc: Global,
+    call: &str,
+    arguments: &mut Arguments,
+) -> Result<Told, LineError> {
+    let (numbers, inputs, rooms) = arguments.parts();
+    let ([], []) = (inputs, rooms) else {
+        return Err(LineError::NoCall);
+    };
+    match call {
+        "encode_bits" | "encode_word" | "reset" => encoder_call(alloc, call, numbers),
+        "deinterleave" | "reset_deinterleaver" => deinterleaver_call(alloc, call, numbers),
+        _ => receiver_call(alloc, call, numbers),
     }
-    if deinterleaver_call(out, call, counts, numbers)? {
-        return Ok(true);
-    }
-    receiver_call(out, call, counts, numbers)
 }

@@ -1,54 +1,45 @@
 // The frames of VSELP (`speech`) and of ACELP CC1.
+use acelp_cc1::DecodedFrame;
 use acelp_interleaver::Interleaving;
-use calls::answers::{Answer, frame, refused, unknown, wrote};
-use calls::arguments::{asks, at};
-use speech::CrcStatus;
+use calls::answers::Answer;
+use calls::arguments::Arguments;
+use calls::errors::LineError;
+use speech::{CrcStatus, SpeechCandidate};
 
-fn is_valid(crc: CrcStatus) -> bool {
-    match crc {
-        CrcStatus::Valid => true,
-        CrcStatus::Failed => false,
-    }
-}
-
-fn vselp_decoded(answer: speech::Decoded) -> Answer {
-    match answer {
-        speech::Decoded::Accepted { crc, corrected } => frame(is_valid(crc), corrected),
-        speech::Decoded::Refused(why) => refused(why),
+fn candidate(candidate: SpeechCandidate) -> Answer {
+    Answer::Frame {
+        valid: candidate.crc == CrcStatus::Valid,
+        corrected: candidate.corrected,
     }
 }
 
 // `encode CLASS_ONE CLASS_TWO FRAME`, `decode_candidate FRAME CLASS_ONE CLASS_TWO`, and the slots.
-pub fn vselp(
-    call: &[u8],
-    counts: usize,
-    first: &[u8],
-    second: &[u8],
-    room: &mut [u8],
-    other: &mut [u8],
-) -> Answer {
-    if asks(b"encode", call, counts, 21) {
-        return wrote(speech::encode(first, second, room));
-    }
-    if asks(b"decode_candidate", call, counts, 12) {
-        return vselp_decoded(speech::decode_candidate(first, room, other));
-    }
-    if asks(b"interleave", call, counts, 21) {
-        return wrote(speech_interleaver::interleave(first, second, room));
-    }
-    if asks(b"deinterleave", call, counts, 21) {
-        return wrote(speech_interleaver::deinterleave(first, second, room));
-    }
-    unknown()
+pub fn vselp(call: &str, arguments: &mut Arguments) -> Result<Answer, LineError> {
+    let (numbers, inputs, rooms) = arguments.parts();
+    let answer = match (call, numbers, inputs, rooms) {
+        ("encode", [], [class_one, class_two], [frame]) => {
+            speech::encode(class_one, class_two, &mut frame.bytes).into()
+        }
+        ("decode_candidate", [], [frame], [class_one, class_two]) => {
+            speech::decode_candidate(frame, &mut class_one.bytes, &mut class_two.bytes)
+                .map(candidate)
+                .into()
+        }
+        ("interleave", [], [previous, current], [slot]) => {
+            speech_interleaver::interleave(previous, current, &mut slot.bytes).into()
+        }
+        ("deinterleave", [], [first, second], [frame]) => {
+            speech_interleaver::deinterleave(first, second, &mut frame.bytes).into()
+        }
+        _ => return Err(LineError::NoCall),
+    };
+    Ok(answer)
 }
 
-fn acelp_decoded(answer: acelp_cc1::Decoded) -> Answer {
-    match answer {
-        acelp_cc1::Decoded::Accepted {
-            crc_valid,
-            corrected,
-        } => frame(crc_valid, corrected),
-        acelp_cc1::Decoded::Refused(why) => refused(why),
+fn frame(frame: DecodedFrame) -> Answer {
+    Answer::Frame {
+        valid: frame.crc_valid,
+        corrected: frame.corrected,
     }
 }
 
@@ -61,19 +52,20 @@ fn mode_of(number: u64) -> Interleaving {
 }
 
 // `encode SPEECH FRAME`, `decode FRAME SPEECH`, `interleave MODE HISTORY SLOT`, `deinterleave MODE SLOTS FRAME`.
-pub fn acelp(call: &[u8], counts: usize, numbers: &[u64], input: &[u8], room: &mut [u8]) -> Answer {
-    let mode = mode_of(at(numbers, 0));
-    if asks(b"encode", call, counts, 11) {
-        return wrote(acelp_cc1::encode(input, room));
-    }
-    if asks(b"decode", call, counts, 11) {
-        return acelp_decoded(acelp_cc1::decode(input, room));
-    }
-    if asks(b"interleave", call, counts, 111) {
-        return wrote(acelp_interleaver::interleave(input, mode, room));
-    }
-    if asks(b"deinterleave", call, counts, 111) {
-        return wrote(acelp_interleaver::deinterleave(input, mode, room));
-    }
-    unknown()
+pub fn acelp(call: &str, arguments: &mut Arguments) -> Result<Answer, LineError> {
+    let (numbers, inputs, rooms) = arguments.parts();
+    let answer = match (call, numbers, inputs, rooms) {
+        ("encode", [], [speech], [room]) => acelp_cc1::encode(speech, &mut room.bytes).into(),
+        ("decode", [], [coded], [room]) => {
+            acelp_cc1::decode(coded, &mut room.bytes).map(frame).into()
+        }
+        ("interleave", [mode], [history], [slot]) => {
+            acelp_interleaver::interleave(history, mode_of(*mode), &mut slot.bytes).into()
+        }
+        ("deinterleave", [mode], [slots], [room]) => {
+            acelp_interleaver::deinterleave(slots, mode_of(*mode), &mut room.bytes).into()
+        }
+        _ => return Err(LineError::NoCall),
+    };
+    Ok(answer)
 }

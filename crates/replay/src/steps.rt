@@ -1,72 +1,73 @@
 // Register steps, checksums and the bare search of DCCH's code. The steps and the search ask for something, so they are called by their flat functions.
-use calls::answers::{Answer, Kind, one, refused_by, said, unknown};
-use calls::arguments::{asks, byte_at, flag_at, u16_at};
-use flat_coding::{Checksum, Step};
+use calls::answers::Answer;
+use calls::arguments::Arguments;
+use calls::errors::LineError;
+use coding::codes::{Acelp, Dcch, Facch};
+use flat_coding::bare_search::{Search, terminated};
+use flat_coding::{Checksum, Step, transition};
+
+// A flat function's refusal is a number, 0 where there is none.
+fn unless_refused(number: u8, expected: usize, actual: usize, answer: Answer) -> Answer {
+    if number == 0 {
+        return answer;
+    }
+    Answer::Refused {
+        number,
+        expected,
+        actual,
+    }
+}
 
 fn stepped(step: Step) -> Answer {
-    if step.refusal != 0 {
-        return refused_by(step.refusal, 0, 0);
-    }
     let output = step.output;
-    said(
-        Kind::Next,
-        5,
-        [
-            step.next as u64,
-            output[0] as u64,
-            output[1] as u64,
-            output[2] as u64,
-            output[3] as u64,
-        ],
-    )
+    let next = step.next;
+    unless_refused(step.refusal, 0, 0, Answer::Next { next, output })
 }
 
 fn checked(sum: Checksum) -> Answer {
-    if sum.refusal != 0 {
-        return refused_by(sum.refusal, 0, 0);
-    }
-    one(Kind::Value, sum.value as u64)
+    unless_refused(sum.refusal, 0, 0, Answer::Value(sum.value))
 }
 
-fn searched(coded: &[u8], word: &mut [u8]) -> Answer {
-    let found = flat_coding::bare_search::terminated(coded, word);
-    if found.refusal != 0 {
-        return refused_by(found.refusal, found.expected, found.actual);
-    }
-    one(Kind::Found, found.metric as u64)
+fn found(search: Search) -> Answer {
+    unless_refused(
+        search.refusal,
+        search.expected,
+        search.actual,
+        Answer::Found(search.metric),
+    )
 }
 
 // `dcch STATE INPUT`, and so for FACCH and ACELP.
-pub fn step(call: &[u8], counts: usize, numbers: &[u64]) -> Answer {
-    let state = byte_at(numbers, 0);
-    let input = byte_at(numbers, 1);
-    if asks(b"dcch", call, counts, 200) {
-        return stepped(flat_coding::dcch_transition(state, input));
-    }
-    if asks(b"facch", call, counts, 200) {
-        return stepped(flat_coding::facch_transition(state, input));
-    }
-    if asks(b"acelp", call, counts, 200) {
-        return stepped(flat_coding::acelp_transition(state, input));
-    }
-    unknown()
+pub fn step(call: &str, arguments: &mut Arguments) -> Result<Answer, LineError> {
+    let (numbers, inputs, rooms) = arguments.parts();
+    let ([state, input], [], []) = (numbers, inputs, rooms) else {
+        return Err(LineError::NoCall);
+    };
+    let state = u8::try_from(*state)?;
+    let input = u8::try_from(*input)?;
+    let step = match call {
+        "dcch" => transition::<Dcch, 2>(state, input),
+        "facch" => transition::<Facch, 4>(state, input),
+        "acelp" => transition::<Acelp, 2>(state, input),
+        _ => return Err(LineError::NoCall),
+    };
+    Ok(stepped(step))
 }
 
 // `checksum DVCC BROADCAST BITS`, `checksum_from REGISTER BITS`, `checksum7 BITS`, `search CODED WORD`.
-pub fn run(call: &[u8], counts: usize, numbers: &[u64], input: &[u8], room: &mut [u8]) -> Answer {
-    if asks(b"checksum", call, counts, 210) {
-        let dvcc = byte_at(numbers, 0);
-        return checked(flat_dcch::checksum(input, dvcc, flag_at(numbers, 1)));
-    }
-    if asks(b"checksum_from", call, counts, 110) {
-        let register = u16_at(numbers, 0);
-        return checked(flat_coding::checksum_from(register, input));
-    }
-    if asks(b"checksum7", call, counts, 10) {
-        return checked(flat_coding::checksum7(input));
-    }
-    if asks(b"search", call, counts, 11) {
-        return searched(input, room);
-    }
-    unknown()
+pub fn run(call: &str, arguments: &mut Arguments) -> Result<Answer, LineError> {
+    let (numbers, inputs, rooms) = arguments.parts();
+    let answer = match (call, numbers, inputs, rooms) {
+        ("checksum", [dvcc, broadcast], [bits], []) => {
+            let dvcc = u8::try_from(*dvcc)?;
+            checked(flat_dcch::checksum(bits, dvcc, *broadcast != 0))
+        }
+        ("checksum_from", [register], [bits], []) => {
+            checked(flat_coding::checksum_from(u16::try_from(*register)?, bits))
+        }
+        ("checksum7", [], [bits], []) => checked(flat_coding::checksum7(bits)),
+        ("search", [], [coded], [word]) => found(terminated(coded, &mut word.bytes)),
+        _ => return Err(LineError::NoCall),
+    };
+    Ok(answer)
 }
