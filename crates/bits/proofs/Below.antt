@@ -1,15 +1,16 @@
 -- Lists of numbers below a limit: what the test of them says of its parts and places, and what gives it. Assumes nothing.
-use mathlib.Core.Path.{◌≡◌, refl, ◌∙◌}
+use mathlib.Core.Path.{◌≡◌, refl, sym, ap₂, ◌∙◌}
 use mathlib.Core.Bool.{Bool, true, false, cond, ◌&&◌, false≢true}
 use mathlib.Core.List.{List, [], ◌∷◌}
 use Prim.Native.Nat.{ℕ, zero, suc, ◌<◌}
 use native.Mathlib.Omega.{arith}
 use native.Mathlib.Nat.{not-suc-le-zero}
-use lib.Dec.{ltb}
+use lib.Dec.{ltb, eqb}
 use lib.ListN.{length, get_or, set, take, drop}
 use borrow.Author.Tests.{ltb-true, lt-ltb}
-use Rattle.bits.proofs.Passing.{Tests}
-use Rattle.bits.specs.Bits.{all_below}
+use Rattle.std.proofs.Common.{Equal, Greater, Less, Some}
+use Rattle.std.specs.Ordering.{is_lt, nat_cmp}
+use Rattle.bits.specs.Bits.{all_below, all_less}
 
 pub cond_and : (a b : Bool) → cond a b false ≡ (a && b)
 cond_and true b = refl
@@ -19,11 +20,17 @@ pub cond_true : (a b : Bool) → cond a b false ≡ true → (a ≡ true) × (b 
 cond_true true b e = (refl, e)
 cond_true false b e = absurd (false≢true e)
 
+-- the order of numbers, as code compares them
+less_ltb : (a b : Bool) → is_lt (cond a Less (cond b Equal Greater)) ≡ a
+less_ltb true b = refl
+less_ltb false true = refl
+less_ltb false false = refl
+
 module _ (n : ℕ) where
-  -- as a test of each number
-  pub below_tests : Tests (all_below n) (λ x. ltb x n)
-  unfolding all_below
-  below_tests = record { none = refl; one = λ x l. cond_and (ltb x n) (all_below n l) }
+  pub below_less : (l : List ℕ) → all_less (λ (a b : ℕ). Some (nat_cmp a b)) n l ≡ all_below n l
+  unfolding all_below all_less
+  below_less [] = refl
+  below_less (x ∷ l) = ap₂ ◌&&◌ (less_ltb (ltb x n) (eqb x n)) (below_less l) ∙ sym (cond_and (ltb x n) (all_below n l))
 
   pub below_none : all_below n [] ≡ true
   unfolding all_below

@@ -5,12 +5,17 @@ use mathlib.Core.List.{List, [], ◌∷◌, ◌++◌}
 use Prim.Native.Nat.{ℕ, zero, suc, ◌+◌, ◌*◌, ◌%◌, ◌<◌, ◌≤◌}
 use native.Mathlib.Omega.{arith}
 use lib.Dec.{eqb}
-use lib.ListN.{length, get_or, take, drop}
+use lib.ListN.{length, get_or, get_or-map, take, drop}
 use Rattle.bits.proofs.Below.{below_none, below_head, below_tail, below_cons, below_at, below_take, below_drop}
 use mir.Val.{bool_byte}
 use Rattle.bits.specs.Bits.{byte, bit, bytes, bits, all_binary, disagreement}
 
 -- ---- one bit
+-- as the code writes it
+pub flag_byte : (b : Bool) → bool_byte b ≡ byte b
+flag_byte false = refl
+flag_byte true = refl
+
 pub bit_byte : (b : Bool) → bit (byte b) ≡ b
 bit_byte false = refl
 bit_byte true = refl
@@ -90,6 +95,10 @@ differ_le false true = omega arith
 differ_le true false = omega arith
 differ_le true true = omega arith
 
+-- a number and its lowest bit are one bit
+pub bit_low : (x : ℕ) → bit (x % 2) ≡ bit x
+bit_low x = let e : x % 2 % 2 ≡ x % 2 = omega arith in ap (λ (n : ℕ). eqb n 1) e
+
 -- of two bytes, as a byte
 pub differs_of : (a b : ℕ) → a < 2 → b < 2 → bool_byte (not (eqb a b)) ≡ disagreement (bit a) (bit b)
 differs_of zero zero h k = refl
@@ -99,6 +108,9 @@ differs_of (suc zero) (suc zero) h k = refl
 differs_of (suc (suc a)) b h k = let z : ⊥ = omega arith in absurd z
 differs_of zero (suc (suc b)) h k = let z : ⊥ = omega arith in absurd z
 differs_of (suc zero) (suc (suc b)) h k = let z : ⊥ = omega arith in absurd z
+
+pub differs_low : (a b : ℕ) → bool_byte (not (eqb (a % 2) (b % 2))) ≡ disagreement (bit a) (bit b)
+differs_low a b = differs_of (a % 2) (b % 2) (omega arith) (omega arith) ∙ ap₂ disagreement (bit_low a) (bit_low b)
 
 pub differ_same : (a : Bool) → disagreement a a ≡ 0
 differ_same false = refl
@@ -126,3 +138,7 @@ pub bits-drop : (n : ℕ) (l : List ℕ) → bits (drop n l) ≡ drop n (bits l)
 bits-drop zero l = refl
 bits-drop (suc n) [] = refl
 bits-drop (suc n) (x ∷ l) = bits-drop n l
+
+-- the bit of a byte that is read
+pub bit_read : (l : List ℕ) (k : ℕ) → bit (get_or l k 0) ≡ get_or (bits l) k false
+bit_read l k = sym (get_or-map bit l k 0)

@@ -1,15 +1,16 @@
 -- Bytes 0, 1 and 2: what they cost against a coded bit, and how many are observed. Assumes nothing.
-use mathlib.Core.Path.{◌≡◌, refl}
+use mathlib.Core.Path.{◌≡◌, refl, ap}
 use mathlib.Core.Bool.{Bool, true, false, cond, not}
 use mathlib.Core.List.{List, [], ◌∷◌}
-use Prim.Native.Nat.{ℕ, ◌+◌, ◌<◌, ◌≤◌}
+use Prim.Native.Nat.{ℕ, suc, ◌+◌, ◌<◌, ◌≤◌}
 use native.Mathlib.Omega.{arith}
 use native.Mathlib.Nat.{zero-add}
+use native.Mathlib.Numerals.{add-one}
 use lib.Dec.{eqb}
-use lib.ListN.{length}
-use Rattle.std.specs.Prelude.{count_by}
-use Rattle.std.proofs.lemmas.List.Recursion.{is_count_by}
+use lib.ListN.{length, get_or, drop, drop_of_length-le}
+use lib.Seq.{drop-cons}
 use borrow.Author.Tests.{eq-eqb, ne_eqb}
+use mir.Val.{bool_byte}
 use Rattle.bits.specs.Bits.{all_binary, bit, disagreement, tally}
 use Rattle.bits.specs.Observed.{all_erasable, erased_differ, observed_one, observed_count}
 use Rattle.bits.proofs.Below.{below_all}
@@ -36,7 +37,16 @@ pub is_observed : (x : ℕ) → (x ≡ 2 → ⊥) → 1 ≡ observed_one x
 unfolding observed_one
 is_observed x n = rw (ne_eqb x 2 n)
 
-observed_one_le : (x : ℕ) → observed_one x ≤ 1
+-- as the code tells it
+pub observed_of : (x : ℕ) → bool_byte (not (eqb x 2)) ≡ observed_one x
+unfolding observed_one
+observed_of x = go (eqb x 2)
+  where
+    go : (t : Bool) → bool_byte (not t) ≡ cond t 0 1
+    go true = refl
+    go false = refl
+
+pub observed_one_le : (x : ℕ) → observed_one x ≤ 1
 unfolding observed_one
 observed_one_le x = go (eqb x 2)
   where
@@ -67,11 +77,25 @@ erased_tally_le [] received = omega arith
 erased_tally_le (b ∷ sent) [] = omega arith
 erased_tally_le (b ∷ sent) (x ∷ received) = omega (arith, erased_one b x, erased_tally_le sent received)
 
--- ---- the observed bytes, counted one by one
-pub observed_counted : (s : List ℕ) → observed_count s ≡ count_by (λ x. not (eqb x 2)) s
-unfolding observed_count observed_one
-observed_counted s = is_count_by observed_count (λ x. not (eqb x 2)) refl (λ x xs. go (eqb x 2) (observed_count xs)) s
-  where
-    go : (t : Bool) (n : ℕ) → cond t 0 1 + n ≡ cond (not t) (1 + n) n
-    go true n = zero-add n
-    go false n = refl
+-- ---- the loop of `count_observed`: n of the first k bytes are observed
+pub record Observing (s : List ℕ) (n k : ℕ) : Type 0 where
+  pub low : k ≤ length s
+  pub few : n ≤ k
+  pub rest : n + observed_count (drop k s) ≡ observed_count s
+
+pub observing_none : (s : List ℕ) → Observing s 0 0
+observing_none s = record { low = omega arith; few = omega arith; rest = zero-add (observed_count s) }
+
+module _ {s : List ℕ} {n k : ℕ} (i : Observing s n k) where
+  pub observing_more : (m : ℕ) → k < length s → m ≤ 1 → m ≡ observed_one (get_or s k 0) → Observing s (n + m) (k + 1)
+  unfolding observed_count
+  observing_more m h few e =
+      let t : observed_count (drop k s) ≡ observed_one (get_or s k 0) + observed_count (drop (suc k) s) = ap observed_count (drop-cons s k 0 h) in
+      let u : observed_count (drop (k + 1) s) ≡ observed_count (drop (suc k) s) = ap (λ (j : ℕ). observed_count (drop j s)) (add-one k) in
+      record { low = omega arith; few = omega (arith, i.few); rest = omega (arith, i.rest) }
+
+  pub observing_done : length s ≤ k → n ≡ observed_count s
+  unfolding observed_count
+  observing_done h =
+      let e : observed_count (drop k s) ≡ 0 = ap observed_count (drop_of_length-le s h) in
+      omega (arith, i.rest)

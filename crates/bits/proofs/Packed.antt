@@ -7,12 +7,12 @@ use native.Mathlib.Omega.{arith}
 use native.Mathlib.Nat.{pow-suc, mul_assoc, mul_comm, add_assoc, add-mul, zero-mul, zero-add, mod-eq_of_lt, div-one, div-div-eq-div-mul}
 use lib.Pow as pow
 use native.Mathlib.Numerals.{add-one}
-use lib.ListN.{length, get_or, set, take, drop, length-append, length-map, length-set, length-take}
+use lib.ListN.{length, get_or, set, take, drop, length-append, length-map, length-set}
 use lib.Seq.{length-take-le, take_all, take-suc, drop-length}
-use Rattle.bits.specs.Bits.{byte, bit, bytes, bits, all_binary}
+use Rattle.bits.specs.Bits.{byte, bit, bytes, bits}
 use Rattle.bits.specs.Numbers.{packed, unpacked}
 use Rattle.bits.proofs.Filled.{drop-set_here}
-use Rattle.bits.proofs.Binary.{byte-bit, byte-bit_any, bit_above, binary_at, binary_take, binary_drop, bits-append, bits-take, bits-drop}
+use Rattle.bits.proofs.Binary.{byte-bit_any, bit_above, bits-append, bits-take, bits-drop}
 
 pub unpacked-length : (n x : ℕ) → length (unpacked n x) ≡ n
 unfolding unpacked
@@ -92,12 +92,12 @@ module _ {s : List ℕ} {value k : ℕ} (i : Packing s value k) where
       let p : 2 ^ k ≤ 2 ^ 63 = pow.pow_mono {i = k} {j = 63} (omega arith) in
       omega (arith, i.so_far)
 
-  pub packing_more : (x : ℕ) → x ≡ get_or s k 0 → k < length s → all_binary s ≡ true → Packing s (value * 2 + x) (k + 1)
-  packing_more x ex l b =
+  pub packing_more : (x : ℕ) → x ≡ get_or s k 0 % 2 → k < length s → Packing s (value * 2 + x) (k + 1)
+  packing_more x ex l =
       record {
         low = omega arith;
         so_far =
-            ap₂ (λ (n y : ℕ). n * 2 + y) i.so_far (ex ∙ sym (byte-bit (get_or s k 0) (binary_at s b k l)))
+            ap₂ (λ (n y : ℕ). n * 2 + y) i.so_far (ex ∙ sym (byte-bit_any (get_or s k 0)))
             ∙ sym (packed_snoc (bits (take k s)) (bit (get_or s k 0))) ∙ ap packed (sym (bits-append (take k s) (get_or s k 0 ∷ [])))
             ∙ ap (λ (l : List ℕ). packed (bits l)) (sym (take-suc s k 0 l) ∙ ap (λ (n : ℕ). take n s) (sym (add-one k)));
       }
@@ -124,20 +124,20 @@ unpacking_none value s =
     }
 
 module _ {value : ℕ} {s₀ s : List ℕ} {rest k : ℕ} (i : Unpacking value s₀ s rest k) where
-  pub unpacking_more : 0 < k → Unpacking value s₀ (set s (k - 1) (rest % 2)) (rest / 2) (k - 1)
+  pub unpacking_more : {x : ℕ} → x ≡ byte (bit rest) → 0 < k → Unpacking value s₀ (set s (k - 1) x) (rest / 2) (k - 1)
   unfolding unpacked
-  unpacking_more h =
+  unpacking_more {x} written h =
       let m : ℕ = length s₀ - k in
       let e : length s₀ - (k - 1) ≡ suc m = omega (arith, i.low) in
       let f : suc (k - 1) ≡ k = omega arith in
       let p : 2 ^ suc m ≡ 2 ^ m * 2 = pow-suc 2 m in
       record {
-        size = length-set s (k - 1) (rest % 2) ∙ i.size;
+        size = length-set s (k - 1) x ∙ i.size;
         low = omega (arith, i.low);
         left = ap (λ (n : ℕ). n / 2) i.left ∙ div-div-eq-div-mul value (2 ^ m) 2 ∙ sym (ap (λ (n : ℕ). value / 2 ^ n) e ∙ ap (λ (n : ℕ). value / n) p);
         written =
-            drop-set_here s (k - 1) (rest % 2) (omega (arith, i.size, i.low))
-            ∙ ap₂ (λ (x : ℕ) (l : List ℕ). x ∷ l) (sym (byte-bit_any rest) ∙ ap (λ (n : ℕ). byte (bit n)) i.left)
+            drop-set_here s (k - 1) x (omega (arith, i.size, i.low))
+            ∙ ap₂ (λ (y : ℕ) (l : List ℕ). y ∷ l) (written ∙ ap (λ (n : ℕ). byte (bit n)) i.left)
             (ap (λ (n : ℕ). drop n s) f ∙ i.written)
             ∙ ap (λ (n : ℕ). bytes (unpacked n value)) (sym e);
       }
@@ -154,8 +154,3 @@ pub part_bits : (n at : ℕ) (l : List ℕ) → bits (take (at + n - at) (drop a
 part_bits n at l =
     let e : at + n - at ≡ n = omega arith in
     bits-take (at + n - at) (drop at l) ∙ ap₂ (λ (k : ℕ) (u : List Bool). take k u) e (bits-drop at l)
-
--- what `pack` asks
-pub asks_pack : (n at : ℕ) (l : List ℕ) → n ≤ 64 → all_binary l ≡ true
-    → (length (take (at + n - at) (drop at l)) ≤ 64) × (all_binary (take (at + n - at) (drop at l)) ≡ true)
-asks_pack n at l h b = (omega (arith, length-take (at + n - at) (drop at l)), binary_take (at + n - at) (drop at l) (binary_drop at l b))

@@ -25,9 +25,6 @@ pub record Testing {A : Type 0} (all : List A → Bool) (l : List A) (r : Bool) 
   pub low : k ≤ length l
   pub rest : all l ≡ (r && all (drop k l))
 
-pub testing_none : {A : Type 0} {all : List A → Bool} (l : List A) → Testing all l true 0
-testing_none l = record { low = omega arith; rest = refl }
-
 module _ {A : Type 0} {all : List A → Bool} {test : A → Bool} (ts : Tests all test) {l : List A} {r : Bool} {k : ℕ} (i : Testing all l r k) where
   pub testing_more : (d : A) {q s : Bool} → k < length l → q ≡ test (get_or l k d) → s ≡ (r && q) → Testing all l s (k + 1)
   testing_more d {q} {s} h e f =

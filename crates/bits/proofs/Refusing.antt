@@ -9,7 +9,7 @@ use lib.ListN.{length}
 use borrow.Author.Tests.{eqb-true, eq-eqb, ltb-true, lt-ltb}
 use Rattle.bits.specs.Bits.{all_binary}
 use Rattle.bits.specs.Arguments.{Arguments, first_refusal, exact_of, binary_of, below_of, exact_bits, bits_and_room, two_and_room}
-use Rattle.bits.specs.Observed.{all_erasable, erasable_of, exact_erasable}
+use Rattle.bits.specs.Observed.{all_erasable, exact_erasable}
 use Rattle.std.specs.Prelude.{Ok, Err}
 use Rattle.bits.specs.declared.Refusal.{Refusal}
 use Rattle.bits.specs.declared.Refusal.TheVariants.{Length, Symbol}
@@ -21,18 +21,6 @@ never_both e f = let z : ◌≡◌ {A = ℕ} 0 1 = cc in absurd (omega arith)
 pub test_passed : (t : Bool) (why : Refusal) (x : Arguments) → cond t x (Err why) ≡ Ok tt → (t ≡ true) × (x ≡ Ok tt)
 test_passed true why x e = (refl, e)
 test_passed false why x e = never_both e refl
-
--- three tests: which two are joined first does not matter
-pub first_refusal_again : (a b c : Arguments) → first_refusal (first_refusal a b) c ≡ first_refusal a (first_refusal b c)
-first_refusal_again (Ok p) b c = refl
-first_refusal_again (Err why) b c = refl
-
--- three lengths, then the symbols of two slices
-pub lengths_then_two : (a b c d e : Arguments) → first_refusal (first_refusal (first_refusal a (first_refusal b c)) d) e ≡ first_refusal a (first_refusal b (first_refusal c (first_refusal d e)))
-lengths_then_two (Err why) b c d e = refl
-lengths_then_two (Ok p) (Err why) c d e = refl
-lengths_then_two (Ok p) (Ok q) (Err why) d e = refl
-lengths_then_two (Ok p) (Ok q) (Ok r) d e = refl
 
 pub passed_first : (a b : Arguments) → first_refusal a b ≡ Ok tt → (a ≡ Ok tt) × (b ≡ Ok tt)
 passed_first (Ok tt) b e = (refl, e)
@@ -58,11 +46,6 @@ pub below_passed : (limit x : ℕ) → x < limit → below_of limit x ≡ Ok tt
 below_passed limit x h = rw (lt-ltb x limit h)
 
 -- ---- bits of an exact length, alone and with room
-pub passed_bits : (n : ℕ) (l : List ℕ) {ready : Arguments} → ready ≡ exact_bits n l → ready ≡ Ok tt → (length l ≡ n) × (all_binary l ≡ true)
-passed_bits n l told passed =
-    let p = passed_first (exact_of n (length l)) (binary_of l) (sym told ∙ passed) in
-    (sym (passed_exact n (length l) p.0), passed_binary l p.1)
-
 pub bits_passed : (n : ℕ) (l : List ℕ) → length l ≡ n → all_binary l ≡ true → exact_bits n l ≡ Ok tt
 bits_passed n l size binary = ap₂ first_refusal (exact_passed n (length l) size) (binary_passed l binary)
 
@@ -76,11 +59,6 @@ pub room_passed : (n : ℕ) (l : List ℕ) (m room : ℕ) → length l ≡ n →
 room_passed n l m room size space binary = ap₂ first_refusal (exact_passed n (length l) size) (ap₂ first_refusal (exact_passed m room space) (binary_passed l binary))
 
 -- ---- bytes 0, 1 and 2 of an exact length
-pub passed_erasable : (n : ℕ) (l : List ℕ) {ready : Arguments} → ready ≡ exact_erasable n l → ready ≡ Ok tt → (length l ≡ n) × (all_erasable l ≡ true)
-passed_erasable n l told passed =
-    let p = passed_first (exact_of n (length l)) (erasable_of l) (sym told ∙ passed) in
-    (sym (passed_exact n (length l) p.0), (test_passed (all_erasable l) Symbol (Ok tt) p.1).0)
-
 pub erasable_passed : (n : ℕ) (l : List ℕ) → length l ≡ n → all_erasable l ≡ true → exact_erasable n l ≡ Ok tt
 erasable_passed n l size e = ap₂ first_refusal (exact_passed n (length l) size) (ap (λ (t : Bool). cond t (Ok tt) (Err Symbol)) e)
 

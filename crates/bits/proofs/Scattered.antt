@@ -4,17 +4,15 @@ use mathlib.Core.Bool.{Bool, true, false, cond}
 use mathlib.Core.List.{List}
 use Prim.Native.Nat.{ℕ, ◌+◌, ◌<◌, ◌≤◌}
 use native.Mathlib.Decide.{ℕ_discrete}
-use native.Mathlib.Nat.{not-suc-le-zero}
 use native.Mathlib.Omega.{arith}
-use lib.Dec.{T, ltb, eqb→eq, ltb→lt}
+use lib.Dec.{ltb}
 use lib.ListN.{length, get_or, set, length-set}
 use lib.Seq.{get_or-set_same, get_or-set_other}
 use borrow.Author.Tests.{ltb-true, ltb-false}
-use Rattle.bits.specs.Places.{listed, place_in}
-use Rattle.bits.proofs.Tested.{both_left, both_right, every, below}
+use Rattle.bits.specs.Places.{listed, place_in, Apart}
 use Rattle.bits.proofs.Filled.{Filling, filling_done}
 use Rattle.bits.proofs.Listed.{is_listed}
-use Rattle.bits.proofs.Permuted.{at_place, stands, permutes, place_below}
+use Rattle.bits.proofs.Permuted.{at_place}
 
 -- from the front, with f's values
 pub filled_listed : {A : Type 0} {f : ℕ → A} {d : A} {n : ℕ} {l : List A} {k : ℕ} → Filling (λ i x. x ≡ f i) d n l k → n ≤ k → l ≡ listed n f
@@ -27,66 +25,38 @@ pub record Scattering {A : Type 0} (order : List ℕ) (f : ℕ → A) (d : A) (n
   pub right : (i : ℕ) → i < k → get_or l (get_or order i 0) d ≡ f i
   pub kept : (p : ℕ) → k ≤ place_in order p → get_or l p d ≡ get_or l₀ p d
 
-pub scattering_none : {A : Type 0} {order : List ℕ} {f : ℕ → A} {d : A} {n : ℕ} {l : List A} → length l ≡ n → Scattering order f d n l l 0
-scattering_none e = record { low = omega arith; size = e; right = λ i h. absurd (not-suc-le-zero h); kept = λ p h. refl }
+module _ {order : List ℕ} {n : ℕ} (apart : Apart order n) {A : Type 0} {f : ℕ → A} {d : A} {l₀ l : List A} {k : ℕ} (s : Scattering order f d n l₀ l k) where
+  pub scattering_more : {p : ℕ} {v : A} → k < length order → p ≡ get_or order k 0 → v ≡ f k → Scattering order f d n l₀ (set l p v) (k + 1)
+  scattering_more {p} {v} h e x =
+      record {
+        low = omega arith;
+        size = length-set l p v ∙ s.size;
+        right = λ i b. right i b (ℕ_discrete i k);
+        kept = λ q b. get_or-set_other l p q v d (other q b) ∙ s.kept q (omega arith);
+      }
+    where
+      here : place_in order p ≡ k
+      here = ap (place_in order) e ∙ apart.once k h
 
--- an order of m places below n, none twice: one test
-module _ (order : List ℕ) (m n : ℕ) (places : length order ≡ m) (t : T (every (stands order n) m)) where
-  pub scatter_below : (k : ℕ) → k < m → get_or order k 0 < n
-  unfolding stands
-  scatter_below k h = ltb→lt _ _ (both_left (ltb (get_or order k 0) n) _ (below (stands order n) m t k h))
+      inside : p < length l
+      inside = omega (arith, s.size, apart.low k h)
 
-  once : (k : ℕ) → k < m → place_in order (get_or order k 0) ≡ k
-  unfolding stands
-  once k h = eqb→eq _ _ (both_right (ltb (get_or order k 0) n) _ (below (stands order n) m t k h))
+      other : (q : ℕ) → k + 1 ≤ place_in order q → q ≡ p → ⊥
+      other q b same = let z : place_in order q ≡ k = ap (place_in order) same ∙ here in omega arith
 
-  module _ {A : Type 0} {f : ℕ → A} {d : A} {l₀ l : List A} {k : ℕ} (s : Scattering order f d n l₀ l k) where
-    pub scattering_room : k < m → get_or order k 0 < length l
-    scattering_room h = omega (arith, s.size, scatter_below k h)
+      right : (i : ℕ) → i < k + 1 → Dec (i ≡ k) → get_or (set l p v) (get_or order i 0) d ≡ f i
+      right i b (yes same) = rw (same, ← e) (get_or-set_same l p v d inside ∙ x)
+      right i b (no n) =
+          get_or-set_other l p (get_or order i 0) v d
+          (λ same. n (sym (apart.once i (omega arith)) ∙ ap (place_in order) same ∙ here))
+          ∙ s.right i (omega arith)
 
-    pub scattering_more : {p : ℕ} {v : A} → k < m → p ≡ get_or order k 0 → v ≡ f k → Scattering order f d n l₀ (set l p v) (k + 1)
-    scattering_more {p} {v} h e x =
-        record {
-          low = omega arith;
-          size = length-set l p v ∙ s.size;
-          right = λ i b. right i b (ℕ_discrete i k);
-          kept = λ q b. get_or-set_other l p q v d (other q b) ∙ s.kept q (omega arith);
-        }
-      where
-        here : place_in order p ≡ k
-        here = ap (place_in order) e ∙ once k h
-
-        inside : p < length l
-        inside = omega (arith, s.size, scatter_below k h)
-
-        other : (q : ℕ) → k + 1 ≤ place_in order q → q ≡ p → ⊥
-        other q b same = let z : place_in order q ≡ k = ap (place_in order) same ∙ here in omega arith
-
-        right : (i : ℕ) → i < k + 1 → Dec (i ≡ k) → get_or (set l p v) (get_or order i 0) d ≡ f i
-        right i b (yes same) = rw (same, ← e) (get_or-set_same l p v d inside ∙ x)
-        right i b (no n) =
-            get_or-set_other l p (get_or order i 0) v d
-            (λ same. n (sym (once i (omega arith)) ∙ ap (place_in order) same ∙ here))
-            ∙ s.right i (omega arith)
-
-    -- all of the order is written, the rest is as it was
-    pub scattering_over : m ≤ k → l ≡ listed n (λ p. cond (ltb (place_in order p) m) (f (place_in order p)) (get_or l₀ p d))
-    scattering_over h = is_listed n _ d l s.size (λ p b. go p (ltb (place_in order p) m) refl)
-      where
-        go : (p : ℕ) (b : Bool) → ltb (place_in order p) m ≡ b → get_or l p d ≡ cond b (f (place_in order p)) (get_or l₀ p d)
-        go p true e =
-            let i : place_in order p < m = ltb-true _ _ e in
-            ap (λ (q : ℕ). get_or l q d) (sym (at_place order p (omega arith))) ∙ s.right (place_in order p) (omega arith)
-        go p false e = let i : m ≤ place_in order p = ltb-false _ _ e in s.kept p (omega arith)
-
--- ---- an order of all the places
-pub permutes_stands : (order : List ℕ) (n : ℕ) → T (permutes order n) → T (every (stands order n) n)
-unfolding permutes
-permutes_stands order n t = both_left (every (stands order n) n) _ t
-
-module _ (order : List ℕ) (n : ℕ) (places : length order ≡ n) (t : T (permutes order n)) where
-  pub scattering_all : {A : Type 0} {f : ℕ → A} {d : A} {l₀ l : List A} {k : ℕ} → Scattering order f d n l₀ l k → n ≤ k → l ≡ listed n (λ p. f (place_in order p))
-  scattering_all {d = d} {l = l} s h =
-      is_listed n _ d l s.size
-      (λ p b. let i : place_in order p < n = place_below order n places t p b in
-      ap (λ (q : ℕ). get_or l q d) (sym (at_place order p (omega arith))) ∙ s.right (place_in order p) (omega arith))
+  -- all of the order is written, the rest is as it was
+  pub scattering_over : length order ≤ k → l ≡ listed n (λ p. cond (ltb (place_in order p) (length order)) (f (place_in order p)) (get_or l₀ p d))
+  scattering_over h = is_listed n _ d l s.size (λ p b. go p (ltb (place_in order p) (length order)) refl)
+    where
+      go : (p : ℕ) (b : Bool) → ltb (place_in order p) (length order) ≡ b → get_or l p d ≡ cond b (f (place_in order p)) (get_or l₀ p d)
+      go p true e =
+          let i : place_in order p < length order = ltb-true _ _ e in
+          ap (λ (q : ℕ). get_or l q d) (sym (at_place order p i)) ∙ s.right (place_in order p) (omega arith)
+      go p false e = let i : length order ≤ place_in order p = ltb-false _ _ e in s.kept p (omega arith)

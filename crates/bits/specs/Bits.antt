@@ -1,5 +1,8 @@
 -- Bits, bits as bytes 0 and 1, and where two lists of bits differ.
-use Rattle.std.specs.Prelude.{Bool, true, false, cond, not, List, [], ◌∷◌, map, ℕ, ◌+◌, ◌%◌, eqb, ltb}
+use Rattle.std.specs.Prelude.{Bool, true, false, cond, not, List, [], ◌∷◌, map, ℕ, ◌+◌, ◌%◌, eqb, ltb, Option}
+use Rattle.std.specs.List.{list_all}
+use Rattle.std.specs.Ordering.{partial_lt}
+use Rattle.std.specs.declared.cmp.Ordering.{Ordering}
 
 -- a bit as a byte
 abbrev pub byte : Bool → ℕ
@@ -15,6 +18,10 @@ bytes w = map byte w
 
 abbrev pub bits : List ℕ → List Bool
 bits l = map bit l
+
+-- every value is less than a limit, by an order
+unfoldable pub all_less : {A : Type 0} → (A → A → Option Ordering) → A → List A → Bool
+all_less order limit l = list_all (λ x. partial_lt order x limit) l
 
 -- every number is below n
 unfoldable pub all_below : ℕ → List ℕ → Bool

@@ -1,4 +1,6 @@
 // What a call tests of its arguments before it goes on: each length in their order, then the symbols. specs/Arguments.antt has the tests.
+// A length that was tested stays a clause of what is called next: C lends slices of any length, and to make an array of one that is written
+// there is only an Option, whose None cannot come here.
 ghost use Rattle.std.specs.Prelude.{◌≡◌};
 ghost use Rattle.bits.specs.Arguments.{below_of, binary_of, bits_and_room, exact_bits, exact_of, symbol_unless, two_and_room};
 
@@ -60,7 +62,8 @@ pub fn bits_and_room(
     binary(s)
 }
 
-// So many bits, so many more, and room for the result: each length, then the symbols.
+// So many bits, so many more, and room for the result: each length, then the symbols. (No list of slices in place of the two functions: a call
+// would be longer.)
 pub fn two_and_room(
     wanted: usize,
     a: &[u8],

@@ -6,10 +6,11 @@ ghost use Rattle.bits.specs.Observed.{erased_differ, exact_erasable, observed_co
 use crate::arguments::{exact, symbol_unless};
 use crate::{Refusal, all_below, differs};
 
-// The byte of a bit that was not observed.
+// The byte of a bit that was not observed. (A byte and no Option: C lends it.)
 pub const UNOBSERVED: u8 = 2;
 
 // So many bytes 0, 1 and 2: the length, then the symbols.
+#[tactic(auto, using(crate::proofs::Below::below_less))]
 pub fn exact_erasable(wanted: usize, s: &[u8]) -> Result<(), Refusal>
     ensures { result ≡ exact_erasable wanted s.now }
 {
@@ -19,7 +20,6 @@ pub fn exact_erasable(wanted: usize, s: &[u8]) -> Result<(), Refusal>
 
 // 1 where an observed bit reads otherwise than the coded bit.
 pub fn erased_differs(sent: u8, received: u8) -> u8
-    requires { (sent < 2) × (received < 3) }
     ensures { (result ≡ erased_differ (bit sent) received) × (result ≤ 1) }
 {
     if received == UNOBSERVED {
@@ -33,5 +33,9 @@ pub fn count_observed(s: &[u8]) -> u16
     requires { length s.now ≤ 260 }
     ensures { result ≡ observed_count s.now }
 {
-    s.iter().filter(|x| **x != UNOBSERVED).count() as u16
+    let mut n = 0;
+    for x in s {
+        n += u16::from(*x != UNOBSERVED);
+    }
+    n
 }

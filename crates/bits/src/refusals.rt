@@ -25,7 +25,8 @@ impl From<Refusal> for u8 {
 }
 
 impl Refusal {
-    // The length that a Length expected; 0 of any other refusal.
+    // The length that a Length expected; 0 of any other refusal. (Two numbers and no Option of a pair: C's records and the stored lines have 0 for
+    // none.)
     pub fn expected(self) -> usize
         ensures { result ≡ expected_of self }
     {

@@ -1,9 +1,7 @@
--- `bits::all_below` meets its contract: the bytes passed were tested. Assumes nothing.
-use mathlib.Core.Path.{◌≡◌}
-use lib.ListN.{length}
-use Rattle.bits.specs.Bits.{all_below}
-use Rattle.bits.proofs.Passing.{Testing}
+-- What `bits::all_below` has passed is tested. Assumes nothing.
+use Rattle.std.proofs.Common.{◌≡◌, take}
+use Rattle.bits.specs.Bits.{all_less}
 use Rattle.bits.proofs.all_below.Given as goal
 
 abbrev pub invariant-loop-x : goal.invariant-loop-x
-invariant-loop-x l = Testing (all_below l.limit) l.s l.passed l.x-index
+invariant-loop-x g l = l.passed ≡ all_less g.T.PartialOrd.partial_cmp l.limit (take l.x-index l.s)

@@ -1,7 +1,5 @@
 -- `bits::pack` meets its contract: the value is the number that the bits passed write. Assumes nothing.
-use mathlib.Core.Path.{refl}
 use native.Mathlib.Omega.{arith}
-use Rattle.bits.proofs.Binary.{binary_at}
 use Rattle.bits.proofs.Packed.{packing_none, packing_room, packing_more, packing_done}
 use Rattle.bits.proofs.pack.Goals as goal
 
@@ -9,17 +7,13 @@ pub loop-b-init : goal.loop-b-init
 loop-b-init c = packing_none _
 
 pub overflow_mul-value : goal.overflow_mul-value
-overflow_mul-value c = omega (arith, packing_room c.loop-b.invariant c.requires.0 (omega arith))
+overflow_mul-value c = omega (arith, packing_room c.loop-b.invariant c.requires (omega arith))
 
 pub overflow_add-value : goal.overflow_add-value
-overflow_add-value c =
-    let pre = c.requires in
-    let at = c.loop-b in
-    omega (arith, packing_room at.invariant pre.0 (omega arith), binary_at _ pre.1 at.b-index (omega arith))
+overflow_add-value c = omega (arith, packing_room c.loop-b.invariant c.requires (omega arith))
 
 pub loop-b-preserved : goal.loop-b-preserved
-loop-b-preserved c =
-    packing_more c.loop-b.invariant _ c.from.ensures (omega arith) c.requires.1
+loop-b-preserved c = packing_more c.loop-b.invariant _ c.from.ensures (omega arith)
 
 pub returns : goal.returns
 returns c = packing_done c.loop-b.invariant (omega arith)

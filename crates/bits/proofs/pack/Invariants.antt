@@ -1,6 +1,4 @@
 -- `bits::pack` meets its contract: the value is the number that the bits passed write. Assumes nothing.
-use mathlib.Core.Path.{◌≡◌}
-use lib.ListN.{length}
 use Rattle.bits.proofs.Packed.{Packing}
 use Rattle.bits.proofs.pack.Given as goal
 
