@@ -1,15 +1,14 @@
 -- What the checksums answer, from what their calls ensure. Assumes nothing.
-use mathlib.Core.Path.{◌≡◌, refl, sym, ap, subst, ◌∙◌}
-use mathlib.Core.Bool.{Bool, true, false, cond, not}
+use mathlib.Core.Path.{◌≡◌, sym, ap, subst, ◌∙◌}
+use mathlib.Core.Bool.{Bool}
 use mathlib.Core.List.{List, ◌++◌}
 use Prim.Native.Nat.{ℕ, ◌/◌, ◌%◌, ◌^◌, ◌<◌}
-use native.Mathlib.Omega.{arith}
 use lib.ListN.{length}
-use Rattle.bits.specs.Bits.{bits, all_binary}
+use Rattle.bits.specs.Bits.{bits}
 use Rattle.bits.specs.Numbers.{packed, unpacked}
 use Rattle.bits.proofs.Packed.{packed_below}
 use Rattle.checksums.proofs.Division.{check_bits-length}
-use Rattle.checksums.specs.Checksums.{check_bits, ccitt, checksum_from, checksum_of, checksum7_of}
+use Rattle.checksums.specs.Checksums.{check_bits, ccitt, speech, checksum_from, checksum_of, checksum7_of}
 use Rattle.checksums.specs.Feedback.{register_after}
 use Rattle.checksums.proofs.Shifting.{after_zero}
 use Rattle.checksums.proofs.Fours.{two_fours}
@@ -37,3 +36,8 @@ checksum_below information dvcc =
     let u : List Bool = check_bits ccitt (unpacked 8 dvcc ++ information) in
     let l : length u ≡ 16 = check_bits-length ccitt (unpacked 8 dvcc ++ information) in
     subst (λ (n : ℕ). packed u < 2 ^ n) l (packed_below u)
+
+-- seven bits
+pub checksum7_below : (u : List Bool) → checksum7_of u < 2 ^ 7
+unfolding checksum7_of
+checksum7_below u = subst (λ (n : ℕ). packed (check_bits speech u) < 2 ^ n) (check_bits-length speech u) (packed_below (check_bits speech u))

@@ -3,18 +3,18 @@
 use mathlib.Core.Path.{◌≡◌, refl, sym, ap, ap₂, subst, ◌∙◌}
 use mathlib.Core.Bool.{Bool, true, false, cond}
 use mathlib.Core.List.{List, [], ◌∷◌, ◌++◌}
-use Prim.Native.Nat.{ℕ, zero, suc, ◌+◌, ◌-◌, ◌*◌, ◌/◌, ◌%◌, ◌^◌, ◌<◌, ◌≤◌}
+use Prim.Native.Nat.{ℕ, zero, suc, ◌+◌, ◌*◌, ◌/◌, ◌%◌, ◌^◌, ◌<◌, ◌≤◌}
 use native.Mathlib.Omega.{arith}
-use native.Mathlib.Nat.{zero-mul, suc-mul}
 use lib.Bits.{bit_xor, xor_comm, xor_lt}
 use Rattle.std.specs.Simd.{first_chunks}
 use Rattle.std.proofs.lemmas.List.{take-append-drop, drop-drop}
 use lib.ListN.{length, get_or, take, drop, length-drop, length-map}
 use lib.Pow.{shr_lt, shr-shr}
 use lib.Seq.{length-take-le}
-use Rattle.bits.specs.Bits.{bit, bits, all_binary, ◌⊕◌}
+use Rattle.bits.specs.Bits.{bit, bits, ◌⊕◌}
 use Rattle.bits.specs.Numbers.{packed, unpacked}
-use Rattle.bits.proofs.Binary.{bits-append, binary_take, binary_drop}
+use Rattle.bits.proofs.Chunks.{chunk_at}
+use Rattle.bits.proofs.Binary.{bits-append}
 use Rattle.bits.proofs.Packed.{packed_snoc, packed-unpacked, packed-unpacked_below, packed_below, unpacked-length, unpacked-packed}
 use Rattle.checksums.specs.Checksums.{added, ccitt}
 use Rattle.checksums.specs.Feedback.{stepped, machine, register_after}
@@ -111,13 +111,6 @@ two_fours x =
     (ap (unpacked 4) (sym (packed-unpacked 4 x)) ∙ ap (λ (n : ℕ). unpacked n (packed (unpacked 4 x))) (sym (unpacked-length 4 x)) ∙ unpacked-packed (unpacked 4 x))
     ∙ sym (unpacked_split 4 4 x)
 
--- ---- a list in chunks of n
-pub chunk_at : (n k : ℕ) (l : List ℕ) (i : ℕ) → i < k → get_or (first_chunks n k l) i [] ≡ take n (drop (i * n) l)
-chunk_at n zero l i h = let z : ⊥ = omega arith in absurd z
-chunk_at n (suc k) l zero h = ap (λ (j : ℕ). take n (drop j l)) (sym (zero-mul n))
-chunk_at n (suc k) l (suc i) h =
-    chunk_at n k (drop n l) i (omega arith) ∙ ap (take n) (drop-drop (i * n) n l) ∙ ap (λ (j : ℕ). take n (drop j l)) (omega (arith, suc-mul i n))
-
 -- the fours of a list
 pub four_at : (s : List ℕ) {fours : List (List ℕ)} {i : ℕ} → fours ≡ first_chunks 4 (length s / 4) s → length fours ≡ length s / 4 → i < length fours
     → (get_or fours i [] ≡ take 4 (drop (i * 4) s)) × (i * 4 + 4 ≤ length s)
@@ -136,9 +129,6 @@ by_fours_none s x h = record { low = omega arith; fits = h; rest = refl }
 -- four bits
 pub four_length : (s : List ℕ) (k : ℕ) → k + 4 ≤ length s → length (take 4 (drop k s)) ≡ 4
 four_length s k h = length-take-le 4 (drop k s) (omega (arith, length-drop k s))
-
-pub four_binary : (s : List ℕ) (k : ℕ) → all_binary s ≡ true → all_binary (take 4 (drop k s)) ≡ true
-four_binary s k e = binary_take 4 (drop k s) (binary_drop k s e)
 
 pub four_below : (s : List ℕ) (k : ℕ) → k + 4 ≤ length s → packed (bits (take 4 (drop k s))) < 16
 four_below s k h =

@@ -16,7 +16,7 @@ use borrow.Author.Tests.{ne_eqb}
 use Rattle.bits.proofs.Tested.{below}
 use Rattle.bits.specs.Bits.{byte, bit, bits, ◌⊕◌}
 use Rattle.bits.specs.Numbers.{packed, unpacked}
-use Rattle.bits.proofs.Binary.{byte_one, bit_one, differ_other}
+use Rattle.bits.proofs.Binary.{bit_low, byte_one, bit_one, differ_other}
 use Rattle.bits.proofs.Packed.{unpacked-length, packed_below, packed_snoc, packed-unpacked, packed-unpacked_below, unpacked-packed}
 use Rattle.checksums.specs.Checksums.{added, remainder, check_bits}
 use Rattle.checksums.specs.Feedback.{stepped, machine, register_after}
@@ -141,6 +141,10 @@ after_zero n p u =
     ∙ ap (λ (r : List Bool). packed (machine (unpacked n p) r u))
     (unpacked_zero n ∙ ap (λ (k : ℕ). replicate k false) (sym (unpacked-length n p)))
     ∙ ap packed (machine-check_bits (unpacked n p) u)
+
+-- a byte's lowest bit goes in
+pub low_input : (n p x i : ℕ) → packed (stepped (unpacked n p) (unpacked n x) (bit (i % 2))) ≡ packed (stepped (unpacked n p) (unpacked n x) (bit i))
+low_input n p x i = ap (λ (b : Bool). packed (stepped (unpacked n p) (unpacked n x) b)) (bit_low i)
 
 -- ---- the loop of `run`: the bits from k on, into the register as it is now, end where all of them end
 pub record Running (n p x₀ : ℕ) (s : List ℕ) (x k : ℕ) : Type 0 where

@@ -19,12 +19,12 @@ const SPEECH: u16 = 0x37;
 
 // One bit into a register of N bits. The feedback is the bit that falls out against the one that comes in.
 fn shifted_in<const N: u32>(register: u16, input: u8, polynomial: u16) -> u16
-    requires { (0 < N) × (N ≤ 16) × (register < 2 ^ N) × (polynomial < 2 ^ N) × (input < 2) }
+    requires { (0 < N) × (N ≤ 16) × (register < 2 ^ N) × (polynomial < 2 ^ N) }
     ensures { result ≡ packed (stepped (unpacked N polynomial) (unpacked N register) (bit input)) }
 {
     let top = 1u16 << (N - 1);
     let shifted = register % top * 2;
-    if register / top == u16::from(input) {
+    if register / top == u16::from(input % 2) {
         shifted
     } else {
         shifted ^ polynomial
@@ -33,7 +33,7 @@ fn shifted_in<const N: u32>(register: u16, input: u8, polynomial: u16) -> u16
 
 // Bits into a register of N bits, one after the other: the remainder of a division that the register's value starts.
 fn run<const N: u32>(register: u16, s: &[u8], polynomial: u16) -> u16
-    requires { (0 < N) × (N ≤ 16) × (register < 2 ^ N) × (polynomial < 2 ^ N) × (all_binary s.now ≡ true) }
+    requires { (0 < N) × (N ≤ 16) × (register < 2 ^ N) × (polynomial < 2 ^ N) }
     ensures { result ≡ register_after N polynomial register (bits s.now) }
 {
     let mut x = register;
@@ -55,18 +55,19 @@ fn four_in(register: u16, four: u16) -> u16
 
 // The register of the 16-bit checksum after some bits, from a given one: by fours, and those that are left one after the other.
 pub fn checksum_from_bits(register: u16, information: &[u8]) -> u16
-    requires { all_binary information.now ≡ true }
     ensures { result ≡ checksum_from register (bits information.now) }
 {
     let (fours, rest) = information.as_chunks::<4>();
     let mut last = register;
     for four in fours {
+        // `as`: below 16, where `u16::try_from` would have an error that never comes.
         last = four_in(last, pack(four) as u16);
     }
     run::<16>(last, rest, CCITT)
 }
 
-// The same of bytes of any content; Symbol where one is no bit.
+// The same of bytes of any content; Symbol where one is no bit. (Two lines, as in `checksum7` and in `dcch`: one function over closures would
+// be longer.)
 pub fn checksum_from(register: u16, information: &[u8]) -> Result<u16, Refusal>
     ensures { result ≡ answer_for_bits information.now (checksum_from register (bits information.now)) }
 {
@@ -76,7 +77,6 @@ pub fn checksum_from(register: u16, information: &[u8]) -> Result<u16, Refusal>
 
 // The checksum of information under a colour code, whose eight bits go first.
 pub fn checksum_under(information: &[u8], dvcc: u8) -> u16
-    requires { all_binary information.now ≡ true }
     ensures { result ≡ checksum_of (bits information.now) dvcc }
 {
     let colour = u16::from(dvcc);
@@ -87,7 +87,7 @@ pub fn checksum_under(information: &[u8], dvcc: u8) -> u16
 
 // Whether the 16 bits after so many bits of a word are this checksum.
 pub fn carries(n: usize, word: &[u8], checksum: u16) -> bool
-    requires { (n + 16 ≤ length word.now) × (all_binary word.now ≡ true) }
+    requires { n + 16 ≤ length word.now }
     ensures { result ≡ carries n (bits word.now) checksum }
 {
     pack(&word[n..n + 16]) == u64::from(checksum)
@@ -95,7 +95,6 @@ pub fn carries(n: usize, word: &[u8], checksum: u16) -> bool
 
 // The checksum of a speech frame's information.
 pub fn checksum7_of_bits(information: &[u8]) -> u16
-    requires { all_binary information.now ≡ true }
     ensures { result ≡ checksum7_of (bits information.now) }
 {
     run::<7>(0, information, SPEECH)

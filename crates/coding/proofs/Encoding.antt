@@ -2,9 +2,9 @@
 use mathlib.Core.Path.{◌≡◌, refl, sym, ap, subst, subst₂, ◌∙◌}
 use mathlib.Core.Bool.{Bool}
 use mathlib.Core.List.{List, [], ◌∷◌, ◌++◌}
-use Prim.Native.Nat.{ℕ, suc, ◌+◌, ◌*◌, ◌<◌, ◌≤◌}
+use Prim.Native.Nat.{ℕ, ◌+◌, ◌*◌, ◌<◌, ◌≤◌}
 use native.Mathlib.Omega.{arith}
-use native.Mathlib.Nat.{mul-le-mul_right, zero-mul, suc-mul}
+use native.Mathlib.Nat.{zero-mul, suc-mul}
 use native.Mathlib.Numerals.{add-one}
 use lib.ListN.{length, get_or, take}
 use lib.Seq.{take_all, take-suc}
@@ -44,12 +44,3 @@ module _ {n : ℕ} {code : List (List Bool)} {memory : ℕ → List Bool} (laws 
           size = size ∙ i.size;
           run = subst₂ (λ (u : List Bool) (l : List ℕ). Ran code memory s u next l) (sym inputs) (sym outs) (ran_more laws.six i.run step);
         }
-
-    -- the places of a step
-    pub room_for : k < length input → k * n + n ≤ length out
-    room_for h = let r : suc k * n ≤ length input * n = mul-le-mul_right n h in omega (arith, suc-mul k n, i.size)
-
-    pub encoding_done : length input ≤ k → Ran code memory s (bits input) at out
-    encoding_done h =
-        let room : length input * n ≤ k * n = mul-le-mul_right n h in
-        subst₂ (λ (u l : List ℕ). Ran code memory s (bits u) at l) (take_all k input h) (take_all (k * n) out (omega (arith, i.size))) i.run

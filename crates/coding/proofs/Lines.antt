@@ -9,7 +9,7 @@ use Rattle.bits.specs.Bits.{byte, bit, bits, bytes, all_binary}
 use Rattle.bits.specs.Places.{listed}
 use Rattle.bits.proofs.Binary.{bytes_bits, bit_byte, bit_above, byte_below}
 use Rattle.bits.proofs.Listed.{listed_same}
-use Rattle.bits.proofs.Filled.{Filling, filling_none, filling_more}
+use Rattle.bits.proofs.Filled.{Filling, filling_more}
 use Rattle.bits.proofs.Scattered.{filled_listed}
 use Rattle.coding.specs.Codes.{tapped, outputs, coded, acelp}
 use Rattle.coding.specs.Registers.{memory_low, Stepped}
@@ -87,9 +87,6 @@ pub record Sending (line : List ℕ) (n : ℕ) (first second : List ℕ) (k : �
   pub two : Filling (λ i x. x ≡ sent_at (get_or acelp 1 []) line i) 0 n second k
 
 module _ {line : List ℕ} {n : ℕ} {first second : List ℕ} where
-  pub sending_none : length first ≡ n → length second ≡ n → Sending line n first second 0
-  sending_none e f = record { one = filling_none e; two = filling_none f }
-
   pub sending_more : {k state next : ℕ} {output : List ℕ} → Sending line n first second k → k < n → state ≡ state_at line k
       → Stepped acelp memory_low state (bit (get_or line (k + 5) 0)) next output
       → Sending line n (set first k (get_or output 0 0)) (set second k (get_or output 1 0)) (k + 1)

@@ -13,7 +13,7 @@ use lib.ListN.{take}
 use Rattle.std.specs.Int.{bit_at}
 use Rattle.std.proofs.lemmas.Nat.Bits.{bit_at_and, bit_at_above, bit_at_cat_low, same_from_bits}
 use Rattle.bits.specs.Bits.{bit, byte, bytes}
-use Rattle.bits.proofs.Binary.{byte-bit, byte-bit_any}
+use Rattle.bits.proofs.Binary.{byte-bit_any}
 use Rattle.bits.proofs.Tested.{both, both_left, both_right, every, below, below_bit, same_bit, same_bit_eq, same_bits, same_bits_eq}
 use Rattle.coding.specs.Codes.{tapped, outputs, from_highest, from_lowest}
 use Rattle.coding.specs.Registers.{memory_high, memory_low, Stepped}
@@ -82,9 +82,9 @@ module _ (from : ℕ → List Bool) (memory : ℕ → List Bool) (register : ℕ
     parities_tapped b s [] t = refl
     parities_tapped b s (g ∷ gs) t = ap₂ (λ (x : ℕ) (l : List ℕ). x ∷ l) (parity_tapped b s g t) (parities_tapped b s gs t)
 
-    pub stepped : T (every (right false) 32) → T (every (right true) 32) → (gs : List ℕ) → {s i : ℕ} {o : List ℕ} → s < 32 → i < 2
-        → o ≡ parities gs (register s i) → Stepped (map from gs) memory s (bit i) (next (register s i)) o
-    stepped p q gs {s} {i} {o} hs hi e =
+    pub stepped : T (every (right false) 32) → T (every (right true) 32) → (gs : List ℕ) {s : ℕ} (i : ℕ) {o : List ℕ} → s < 32
+        → o ≡ parities gs (register s (i % 2)) → Stepped (map from gs) memory s (bit i) (next (register s (i % 2))) o
+    stepped p q gs {s} i {o} hs e =
         let b : Bool = bit i in
         let t : T (right b s) = below_bit right 32 p q b s hs in
         let k : T (keeps b s) = both_right (every (sends b s) 64) (keeps b s) t in
@@ -95,16 +95,16 @@ module _ (from : ℕ → List Bool) (memory : ℕ → List Bool) (register : ℕ
           below = ltb→lt n 32 (both_right (ltb (register s (byte b)) 64) (ltb n 32) (both_left (fits b s) _ k));
           holds = same_bits_eq _ _ (both_right (fits b s) _ k);
         } in
-        subst (λ (l : List ℕ). Stepped (map from gs) memory s b (next (register s i)) l) (sym e)
-        (subst (λ (j : ℕ). Stepped (map from gs) memory s b (next (register s j)) (parities gs (register s j))) (byte-bit i hi) w)
+        subst (λ (l : List ℕ). Stepped (map from gs) memory s b (next (register s (i % 2))) l) (sym e)
+        (subst (λ (j : ℕ). Stepped (map from gs) memory s b (next (register s j)) (parities gs (register s j))) (byte-bit_any i) w)
 
-module _ (gs : List ℕ) {s i : ℕ} {o : List ℕ} (hs : s < 32) (hi : i < 2) where
+module _ (gs : List ℕ) {s : ℕ} (i : ℕ) {o : List ℕ} (hs : s < 32) where
   -- IS-136 and IS-54-B: the input comes in above the state
-  pub high_step : o ≡ parities gs (bit_or s (i * 32 % 256)) → Stepped (map from_highest gs) memory_high s (bit i) (bit_or s (i * 32 % 256) / 2) o
+  pub high_step : o ≡ parities gs (bit_or s (i % 2 * 32 % 256)) → Stepped (map from_highest gs) memory_high s (bit i) (bit_or s (i % 2 * 32 % 256) / 2) o
   unfolding tapped ones
-  high_step e = stepped from_highest memory_high (λ s i. bit_or s (i * 32 % 256)) (λ r. r / 2) highest_six tt tt gs hs hi e
+  high_step e = stepped from_highest memory_high (λ s i. bit_or s (i * 32 % 256)) (λ r. r / 2) highest_six tt tt gs i hs e
 
   -- TIA/EIA-136-410: it comes in below
-  pub low_step : o ≡ parities gs (bit_or (s * 2 % 256) i) → Stepped (map from_lowest gs) memory_low s (bit i) (bit_and (bit_or (s * 2 % 256) i) 31) o
+  pub low_step : o ≡ parities gs (bit_or (s * 2 % 256) (i % 2)) → Stepped (map from_lowest gs) memory_low s (bit i) (bit_and (bit_or (s * 2 % 256) (i % 2)) 31) o
   unfolding tapped ones
-  low_step e = stepped from_lowest memory_low (λ s i. bit_or (s * 2 % 256) i) (λ r. bit_and r 31) lowest_six tt tt gs hs hi e
+  low_step e = stepped from_lowest memory_low (λ s i. bit_or (s * 2 % 256) i) (λ r. bit_and r 31) lowest_six tt tt gs i hs e

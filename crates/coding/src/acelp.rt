@@ -16,6 +16,7 @@ fn state_after(a: u8, b: u8, c: u8, d: u8, e: u8) -> u8
 }
 
 // What the two generators send at each input of a line after the first five. No step waits for the state that another leaves, so the loop is vectorised.
+// (By number: a turn reads six places of the line and writes two lists. That its bytes are bits is asked: six turns read each, and each would reduce it.)
 pub fn line_outputs(line: &[u8], first: &mut [u8], second: &mut [u8])
     requires { (length line.now ≡ length first.old + 5) × (length second.old ≡ length first.old) × (all_binary line.now ≡ true) }
     ensures first_after { first.new ≡ bytes (coded (take 1 acelp) (reverse (take 5 (bits line.now))) (drop 5 (bits line.now))) }

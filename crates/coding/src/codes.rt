@@ -1,4 +1,4 @@
-// The codes of the standards.
+// The codes of the standards. A code is a type alone: no value of it is made, so that nothing is derived.
 // Ported from 136-bts, dcch.rs, facch.rs and acelp_cc1.rs, and changed (see NOTICE).
 ghost use Rattle.coding.specs.Codes.{acelp, dcch, facch};
 ghost use Rattle.coding.specs.Laws.{acelp_laws, dcch_laws, facch_laws};

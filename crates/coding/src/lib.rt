@@ -24,8 +24,8 @@ fn write_output<const N: usize>(output: &[u8; N], at: usize, coded: &mut [u8])
     requires { at + N ≤ length coded.old }
     ensures { take (at + N) coded.new ≡ take at coded.old ++ output.now }
 {
-    for i in 0..N {
-        coded[at + i] = output[i];
+    for (i, bit) in output.iter().enumerate() {
+        coded[at + i] = *bit;
     }
 }
 
@@ -36,21 +36,22 @@ pub trait Code<const N: usize> {
 
     ghost memory: { ℕ → List Bool };
 
-    // One step from a state.
+    // One step from a state. (A state is a byte below 32, and no type of its own: C passes it, and the searches count states.)
     fn transition(state: u8, input: u8) -> Step<N>
-        requires { (state < 32) × (input < 2) }
+        requires { state < 32 }
         ensures { Stepped code memory state (bit input) result.next result.output };
 
     ghost laws: { CodeLaws N code memory };
 
-    // The coded bits of a run of inputs from a state, and the state after it.
+    // The coded bits of a run of inputs from a state, and the state after it. (Written by place: after a `zip` with chunks of the coded bits a
+    // proof knows nothing of them.)
     final fn convolutional_encode(state: u8, input: &[u8], coded: &mut [u8]) -> u8
-        requires { (state < 32) × (length coded.old ≡ length input.now * N) × (all_binary input.now ≡ true) }
+        requires { (state < 32) × (length coded.old ≡ length input.now * N) }
         ensures { Ran code memory state (bits input.now) result coded.new }
     {
         let mut at = state;
-        for i in 0..input.len() {
-            let step = Self::transition(at, input[i]);
+        for (i, bit) in input.iter().enumerate() {
+            let step = Self::transition(at, *bit);
             write_output(&step.output, i * N, coded);
             at = step.next;
         }

@@ -4,12 +4,12 @@ use mathlib.Core.Bool.{Bool, true, false}
 use mathlib.Core.List.{List, [], ◌∷◌, ◌++◌, append_assoc, append-nil}
 use Prim.Native.Nat.{ℕ, ◌+◌, ◌^◌, ◌<◌}
 use native.Mathlib.Omega.{arith}
-use lib.ListN.{length, take, drop, length-append, length-map}
+use lib.ListN.{length, take, drop, length-append}
 use lib.Seq.{take_at, drop_at}
 use mir.Val.{bool_byte}
-use Rattle.bits.specs.Bits.{bit, byte, bits, bytes, all_binary}
+use Rattle.bits.specs.Bits.{bit, bits, bytes, all_binary}
 use Rattle.bits.specs.Numbers.{packed, unpacked}
-use Rattle.bits.proofs.Binary.{bits-bytes, binary_bytes, binary_cons}
+use Rattle.bits.proofs.Binary.{bits-bytes, binary_cons}
 use Rattle.bits.proofs.Packed.{packed-unpacked_below, unpacked-length}
 use Rattle.checksums.specs.Checksums.{checksum_of}
 use Rattle.checksums.proofs.Answers.{checksum_below}
@@ -56,11 +56,5 @@ module _ (header : List Bool) (message dvcc : ℕ) where
 
   -- ---- as bytes
   module _ {word : List ℕ} (made : word ≡ bytes (made_of header message dvcc)) where
-    pub made_size : length word ≡ length header + 64
-    made_size = ap length made ∙ length-map (made_of header message dvcc) byte ∙ made_length
-
-    pub made_binary : all_binary word ≡ true
-    made_binary = ap all_binary made ∙ binary_bytes (made_of header message dvcc)
-
     pub made_bits : bits word ≡ made_of header message dvcc
     made_bits = ap bits made ∙ bits-bytes (made_of header message dvcc)

@@ -9,7 +9,7 @@ use lib.Seq.{take_at, drop_at, length-take-le}
 use borrow.Rule.Slice.PartMut.{put_mid}
 use Rattle.bits.specs.Bits.{bit, byte, bits, bytes, all_binary}
 use Rattle.bits.specs.Numbers.{unpacked}
-use Rattle.bits.proofs.Binary.{bits-bytes, bytes_bits, bytes-append, binary_bytes}
+use Rattle.bits.proofs.Binary.{bits-bytes, bytes_bits, bytes-append}
 use Rattle.bits.proofs.Packed.{unpacked-length}
 use Rattle.checksums.specs.Checksums.{checksum_of}
 use Rattle.words.specs.Words.{information_of, made_of}
@@ -53,9 +53,6 @@ module _ (word : List ℕ) (h message : ℕ) (size : length word ≡ h + 64) (bi
 
   pub front_length : h + 48 ≡ length (take (h + 48) (put_mid h n word part))
   front_length = sym (ap length front ∙ information_length)
-
-  pub front_binary : all_binary (take (h + 48) (put_mid h n word part)) ≡ true
-  front_binary = ap all_binary front ∙ binary_bytes information
 
   -- and the checksum after it
   abbrev m : ℕ

@@ -12,7 +12,8 @@ use checksums::{carries, checksum_under};
 // Messages have 48 bits.
 pub const MESSAGES: u64 = 0x1000000000000;
 
-// Writes the message and the checksum after a header of so many bits.
+// Writes the message and the checksum after a header of so many bits. (The header's bytes are bits, since it is sent as it is. C passes message and
+// colour code apart.)
 pub fn complete(header: usize, message: u64, dvcc: u8, word: &mut [u8])
     requires { (length word.old ≡ header + 64) × (all_binary (take header word.old) ≡ true) }
     ensures { word.new ≡ bytes (made_of (bits (take header word.old)) message dvcc) }
@@ -25,7 +26,7 @@ pub fn complete(header: usize, message: u64, dvcc: u8, word: &mut [u8])
 
 // The message after a header of so many bits.
 pub fn message(header: usize, word: &[u8]) -> u64
-    requires { (header + 48 ≤ length word.now) × (all_binary word.now ≡ true) }
+    requires { header + 48 ≤ length word.now }
     ensures { result ≡ message_in header (bits word.now) }
 {
     pack(&word[header..header + 48])
@@ -33,7 +34,7 @@ pub fn message(header: usize, word: &[u8]) -> u64
 
 // Whether the checksum in a word with a header of so many bits is right.
 pub fn valid(header: usize, word: &[u8], dvcc: u8) -> bool
-    requires { (header + 64 ≤ length word.now) × (all_binary word.now ≡ true) }
+    requires { header + 64 ≤ length word.now }
     ensures { result ≡ word_valid header (bits word.now) dvcc }
 {
     let end = header + 48;

@@ -1,15 +1,13 @@
 -- `checksums::checksum_from_bits` meets its contract: the bits left, into the register, end where all of them end. Assumes nothing.
 use mathlib.Core.Path.{◌≡◌, sym, ap, subst, ◌∙◌}
-use mathlib.Core.Bool.{true}
 use mathlib.Core.List.{List}
-use Prim.Native.Nat.{ℕ, ◌+◌, ◌*◌, ◌<◌, ◌≤◌}
+use Prim.Native.Nat.{ℕ, ◌*◌}
 use native.Mathlib.Omega.{arith}
 use lib.ListN.{length, drop}
-use Rattle.bits.specs.Bits.{bits, all_binary}
+use Rattle.bits.specs.Bits.{bits}
 use Rattle.bits.specs.Numbers.{packed}
-use Rattle.bits.proofs.Binary.{binary_drop}
 use Rattle.checksums.specs.Feedback.{register_after}
-use Rattle.checksums.proofs.Fours.{ByFours, by_fours_none, by_fours_more, by_fours_done, four_at, four_length, four_binary, four_below}
+use Rattle.checksums.proofs.Fours.{ByFours, by_fours_none, by_fours_more, by_fours_done, four_at, four_length, four_below}
 use Rattle.checksums.proofs.Runs.{from_after}
 use Rattle.checksums.proofs.checksum_from_bits.Goals as goal
 
@@ -20,7 +18,7 @@ pub pack-requires : goal.pack-requires
 pack-requires c =
     let s = c.args.information.now in
     let at = four_at s c.as_chunks.ensures.front c.as_chunks.ensures.front_len c.loop-four-test.true in
-    (omega (arith, ap length at.0, four_length s (c.loop-four.four-index * 4) at.1), ap all_binary at.0 ∙ four_binary s (c.loop-four.four-index * 4) c.requires)
+    omega (arith, ap length at.0, four_length s (c.loop-four.four-index * 4) at.1)
 
 pub overflow_cast-pack : goal.overflow_cast-pack
 overflow_cast-pack c =
@@ -44,9 +42,7 @@ loop-four-preserved c =
     subst (ByFours s c.args.register c.four_in-last.result) (omega arith) (by_fours_more c.loop-four.invariant at.1 e c.four_in-last.ensures)
 
 pub run-requires : goal.run-requires
-run-requires c =
-    let ends = c.as_chunks.ensures in
-    (omega arith, omega arith, c.loop-four.invariant.fits, omega arith, ap all_binary ends.back ∙ binary_drop _ c.args.information.now c.requires)
+run-requires c = (omega arith, omega arith, c.loop-four.invariant.fits, omega arith)
 
 pub returns : goal.returns
 returns c =

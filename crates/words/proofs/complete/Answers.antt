@@ -1,15 +1,11 @@
 -- `words::complete` meets its contract: the message, and the checksum of header and message. Assumes nothing.
 use mathlib.Core.Path.{◌∙◌}
-use Rattle.words.proofs.Writing.{front_length, front_binary, completed}
+use Rattle.words.proofs.Writing.{front_length, completed}
 use Rattle.words.proofs.complete.Goals as goal
 
 pub slice_bounds-checksum_under-end-2 : goal.slice_bounds-checksum_under-end-2
 slice_bounds-checksum_under-end-2 c =
     front_length c.args.word.now c.args.header c.args.message c.requires.0 c.requires.1 _ c.unpack.ensures
-
-pub checksum_under-checksum-requires : goal.checksum_under-checksum-requires
-checksum_under-checksum-requires c =
-    front_binary c.args.word.now c.args.header c.args.message c.requires.0 c.requires.1 _ c.unpack.ensures
 
 pub returns : goal.returns
 returns c =

@@ -2,18 +2,13 @@
 use mathlib.Core.Bool.{Bool}
 use mathlib.Core.List.{List}
 use native.Mathlib.Omega.{arith}
-use Rattle.bits.proofs.Binary.{binary_take}
 use Rattle.bits.proofs.LentPart.{part_length}
 use Rattle.checksums.specs.Checksums.{checksum_of}
 use Rattle.checksums.proofs.Tested.{carries_sum}
-use borrow.Author.Rules.{rules}
 use Rattle.words.proofs.valid.Goals as goal
 
 pub slice_bounds-checksum_under-end : goal.slice_bounds-checksum_under-end
 slice_bounds-checksum_under-end c = part_length _ c.args.word.now (omega arith)
-
-pub checksum_under-wanted-requires : goal.checksum_under-wanted-requires
-checksum_under-wanted-requires c = search (rules, binary_take)
 
 pub returns : goal.returns
 returns c =

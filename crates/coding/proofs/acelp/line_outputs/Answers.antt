@@ -15,11 +15,6 @@ state_after-state-requires c =
       binary_at _ pre.2 _ (omega arith),
     )
 
-pub transition-step-requires : goal.transition-step-requires
-transition-step-requires c =
-    let pre = c.requires in
-    (c.state_after-state.ensures.1, binary_at _ pre.2 _ (omega arith))
-
 pub loop-i-preserved : goal.loop-i-preserved
 loop-i-preserved c =
     let turn = c.loop-i in

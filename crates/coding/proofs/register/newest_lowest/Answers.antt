@@ -3,4 +3,4 @@ use Rattle.coding.proofs.Steps.{low_step}
 use Rattle.coding.proofs.register.newest_lowest.Goals as goal
 
 pub returns : goal.returns
-returns g c = let e = c.step_to.ensures.0 in rw e (low_step c.args.generators c.requires.0 c.requires.1 c.step_to.ensures.1)
+returns g c = let e = c.step_to.ensures.0 in rw e (low_step c.args.generators c.args.input c.requires c.step_to.ensures.1)

@@ -7,4 +7,4 @@ use Rattle.coding.proofs.register.step_to.Given as goal
 
 abbrev pub invariant-loop-i : goal.invariant-loop-i
 invariant-loop-i g l =
-    (l.step.next ≡ l.next) × Filling (λ i x. x ≡ ones (bit_and l.register (get_or l.generators i 0)) % 2) 0 (length l.generators) l.step.output l.i
+    (l.step.next ≡ l.next) × Filling (λ i x. x ≡ ones (bit_and l.register (get_or l.fn.generators i 0)) % 2) 0 (length l.fn.generators) l.step.output l.i
