@@ -8,8 +8,8 @@ use native.Mathlib.Decide.{ℕ_discrete}
 use lib.Seq.{get_or-append_seam}
 use lib.ListN.{get_or-append, length, get_or, drop, replicate, get_or-replicate, length-append, length-map, get_or-map}
 use borrow.Author.Tests.{eqb-false}
-use Rattle.bits.specs.Bits.{bit, bits, all_binary, disagreements, tally}
-use Rattle.bits.proofs.Binary.{binary_at}
+use Rattle.bits.specs.Bits.{bit, bits, disagreements, tally}
+use Rattle.bits.proofs.Binary.{bit_low}
 use Rattle.coding.specs.Codes.{acelp}
 use Rattle.coding.specs.Laws.{acelp_laws}
 use Rattle.viterbi.proofs.Branches.{distance_le}
@@ -51,8 +51,7 @@ silent_tally : (place : ℕ) (r : List Observation) → 0 ≡ tally cost (output
 unfolding tally
 silent_tally place r = refl
 
-module _ (coded symbols : List ℕ) (rows : List (List ℕ)) (enough : length coded ≡ 208) (size : length symbols ≡ 108) (binary : all_binary coded ≡ true)
-    (passed : StepRows rows) (read : SymbolsTo coded symbols 108) where
+module _ (coded symbols : List ℕ) (rows : List (List ℕ)) (enough : length coded ≡ 208) (size : length symbols ≡ 108) (passed : StepRows rows) (read : SymbolsTo coded symbols 108) where
   -- the pair that a step receives
   pair : (k : ℕ) → k < 108 → silent k ≡ false
       → (get_or symbols k 0 < 4) × (bit (get_or symbols k 0 / 2) ≡ get_or (bits coded) (pair_at k) false)
@@ -60,11 +59,9 @@ module _ (coded symbols : List ℕ) (rows : List (List ℕ)) (enough : length co
   pair k h sends =
       let ne : k % 27 ≡ 26 → ⊥ = eqb-false (k % 27) 26 sends in
       let e : get_or symbols k 0 ≡ pair_of coded (k - k / 27) = read k h ∙ ap (λ (t : Bool). cond t 4 (pair_of coded (k - k / 27))) sends in
-      let a : get_or coded (pair_at k) 0 < 2 = binary_at coded binary (pair_at k) (omega arith) in
-      let b : get_or coded (pair_at k + 1) 0 < 2 = binary_at coded binary (pair_at k + 1) (omega arith) in
-      let x : get_or symbols k 0 / 2 ≡ get_or coded (pair_at k) 0 = omega arith in
-      let y : get_or symbols k 0 % 2 ≡ get_or coded (pair_at k + 1) 0 = omega arith in
-      (omega arith, ap bit x ∙ sym (get_or-map bit coded (pair_at k) 0), ap bit y ∙ sym (get_or-map bit coded (pair_at k + 1) 0))
+      let x : get_or symbols k 0 / 2 ≡ get_or coded (pair_at k) 0 % 2 = omega arith in
+      let y : get_or symbols k 0 % 2 ≡ get_or coded (pair_at k + 1) 0 % 2 = omega arith in
+      (omega arith, ap bit x ∙ bit_low _ ∙ sym (get_or-map bit coded (pair_at k) 0), ap bit y ∙ bit_low _ ∙ sym (get_or-map bit coded (pair_at k + 1) 0))
 
   none : (k : ℕ) → k < 108 → silent k ≡ true → get_or symbols k 0 ≡ 4
   none k h quiet = read k h ∙ ap (λ (t : Bool). cond t 4 (pair_of coded (k - k / 27))) quiet

@@ -1,9 +1,10 @@
 // The search of ACELP CC1's punctured code: specs/Punctured.antt says what it finds. An internal layer.
 // Ported from 136-bts, acelp_cc1.rs, and changed (see NOTICE).
+// Lengths of what is lent stay clauses: see `bits::arguments`.
 #![tactic(auto)]
 
-ghost use Rattle.std.specs.Prelude.{true, ◌≡◌, ◌<◌, length};
-ghost use Rattle.bits.specs.Bits.{all_binary, bits};
+ghost use Rattle.std.specs.Prelude.{◌≡◌, ◌<◌, length};
+ghost use Rattle.bits.specs.Bits.{bits};
 ghost use Rattle.trellis.specs.Search.{FoundFirst};
 ghost use Rattle.trellis.specs.Words.{Terminated};
 ghost use Rattle.puncturing.specs.Punctured.{weight};
@@ -14,6 +15,7 @@ use trellis::Outcome;
 use viterbi::{pair, pair_rows};
 
 // The rows of branch metrics: those of the four pairs, and one of zeros for a step that sends nothing.
+#[tactic(auto, using(crate::proofs::Branches::step_rows))]
 fn step_rows() -> [[u16; 64]; 5]
     ensures { StepRows result }
 {
@@ -25,7 +27,7 @@ fn step_rows() -> [[u16; 64]; 5]
 
 // What a step receives: the number of its pair, or 4 where it sends nothing. Of each 27 steps the last sends nothing.
 fn symbol(coded: &[u8], step: usize) -> u8
-    requires { (length coded.now ≡ 208) × (all_binary coded.now ≡ true) × (step < 108) }
+    requires { (length coded.now ≡ 208) × (step < 108) }
     ensures { result ≡ symbol_of coded.now step }
 {
     if step % 27 == 26 {
@@ -36,19 +38,19 @@ fn symbol(coded: &[u8], step: usize) -> u8
 
 // What each step receives.
 fn symbols(coded: &[u8]) -> [u8; 108]
-    requires { (length coded.now ≡ 208) × (all_binary coded.now ≡ true) }
+    requires { length coded.now ≡ 208 }
     ensures { (length result ≡ 108) × SymbolsTo coded.now result 108 }
 {
     let mut symbols = [0u8; 108];
-    for step in 0..108 {
-        symbols[step] = symbol(coded, step);
+    for (step, received) in symbols.iter_mut().enumerate() {
+        *received = symbol(coded, step);
     }
     symbols
 }
 
 // Writes the nearest word that ends in five zeros, from state 0: the first such. The metric is its number of disagreements.
 pub fn punctured(coded: &[u8], word: &mut [u8]) -> Outcome
-    requires { (length coded.now ≡ 208) × (length word.old ≡ 108) × (all_binary coded.now ≡ true) }
+    requires { (length coded.now ≡ 208) × (length word.old ≡ 108) }
     ensures { FoundFirst (Terminated 108) (weight (bits coded.now)) word.new result }
 {
     let rows = step_rows();

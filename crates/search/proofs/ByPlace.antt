@@ -19,7 +19,7 @@ use Rattle.coding.specs.Registers.{memory_low}
 use Rattle.coding.specs.Laws.{AtMostSix}
 use Rattle.search.specs.Forward.{branch_by}
 use Rattle.trellis.specs.Numbering.{newest_low}
-use Rattle.search.specs.Row.{place_of, register_at, taps_of, output_at, distance_at, Bits, OutputsOf, OutputsTo}
+use Rattle.search.specs.Row.{place_of, register_at, taps_of, output_at, distance_at, OutputsOf, OutputsTo}
 use Rattle.trellis.specs.Words.{branch_of, word_metric}
 use Rattle.trellis.proofs.Distance.{distance}
 use Rattle.trellis.proofs.Registers.{register_low_lem, same_numbers}
@@ -36,13 +36,6 @@ register_of place h = eqb→eq _ _ (below (λ (p : ℕ). eqb ((p % 16 + p / 32 *
 pub output-byte : (taps place register x : ℕ) → register ≡ register_at place → x ≡ ones (bit_and register taps) % 2 → x ≡ byte (output_at taps place)
 unfolding output_at
 output-byte taps place register x er ex = ex ∙ ap (λ (r : ℕ). ones (bit_and r taps) % 2) er ∙ sym (byte-bit_any _)
-
-pub output_below : (taps place x : ℕ) → x ≡ byte (output_at taps place) → x < 2
-output_below taps place x e = omega (arith, byte_below (output_at taps place))
-
--- a cost against an output byte is one against the output bit
-pub place_cost : {B : Type 0} (f : Bool → B → ℕ) (taps place x : ℕ) (received : B) (a : ℕ) → x ≡ byte (output_at taps place) → a ≡ f (bit x) received → a ≡ f (output_at taps place) received
-place_cost f taps place x received a ex ea = ea ∙ ap (λ (p : Bool). f p received) (ap bit ex ∙ bit_byte (output_at taps place))
 
 -- ---- parities and tapped inputs
 -- the n lowest bits of a number, the lowest first
@@ -125,9 +118,6 @@ module _ (code : List (List Bool)) (outputs : List (List ℕ)) (o : OutputsOf (n
   distance_coded received place h =
       ap (λ (l : List Bool). tally erased_differ l received)
       (outputs_same code outputs place (o.size ∙ length-map code taps_of) h (λ i b. o.row i (omega (arith, length-map code taps_of))))
-
-  pub outputs_bits : Bits outputs
-  outputs_bits i place h p = output_below (get_or (numbers code) i 0) place _ (o.row i (omega (arith, o.size)) place p)
 
 -- ---- rows by place
 module _ {B : Type 0} (code : List (List Bool)) (f : Bool → B → ℕ) (received : List B) (rows : List (List ℕ)) (symbols : List ℕ) where

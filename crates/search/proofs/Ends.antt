@@ -24,16 +24,6 @@ unfolding lower_of
 even d m s h g = rw (le-ltb m d.outcome.metric h, le-ltb d.outcome.metric m g)
 
 module _ (ms : List ℕ) where
-  pub lowest_one : LowestEnd ms 1 (record { outcome = record { metric = get_or ms 0 0; tie = false }; state = 0 })
-  lowest_one =
-      record {
-        low = omega arith;
-        exact = refl;
-        least = λ j h. let e : 0 ≡ j = omega arith in subst (λ (x : ℕ). get_or ms 0 0 ≤ get_or ms x 0) e (le_refl _);
-        shared = λ e. absurd (false≢true e);
-        other = λ o. let z : ⊥ = o.apart (omega (arith, o.low)) in absurd z;
-      }
-
   module _ (k : ℕ) (d : End) (i : LowestEnd ms k d) where
     -- an ending is one of those before, or the new one
     split : (j : ℕ) → j < k + 1 → (x : ℕ) → x ≤ get_or ms k 0 → x ≤ d.outcome.metric → x ≤ get_or ms j 0

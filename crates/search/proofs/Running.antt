@@ -16,7 +16,7 @@ use Rattle.trellis.proofs.Registers.{register_low_lem}
 use Rattle.bits.proofs.Filled.{set_next}
 use Rattle.bits.proofs.Tested.{below_bit}
 use Rattle.search.specs.Butterfly.{Advanced, Fit, candidate_of}
-use Rattle.search.specs.Forward.{MetricsAt, BytesAt, BytesTo, branch_by, engine, Starts, Rows, Forwarded}
+use Rattle.search.specs.Forward.{MetricsAt, BytesAt, BytesTo, branch_by, engine, Starts, Rows}
 use Rattle.search.specs.Row.{place_of}
 use Rattle.search.specs.Select.{lesser_of, byte_of}
 use Rattle.search.specs.declared.butterfly.Column.{Column}
@@ -59,11 +59,6 @@ pub record Running (branch : ℕ → ℕ → Bool → ℕ) (start : List ℕ) (p
 pub running_none : (branch : ℕ → ℕ → Bool → ℕ) (start : List ℕ) (ps : List (List ℕ)) → Running branch start ps ps start 0
 unfolding state_metric
 running_none branch start ps = record { size = refl; metrics = λ t h. refl; bytes = λ j h. absurd (not-suc-le-zero h); rest = λ j h. refl }
-
-pub forwarded : {branch : ℕ → ℕ → Bool → ℕ} {start : List ℕ} {ps₀ ps : List (List ℕ)} {ms : List ℕ} {k : ℕ} → Running branch start ps₀ ps ms k → (n : ℕ) → k ≡ n
-    → Forwarded (engine branch start) ps₀ ps n ms
-forwarded {branch} {start} {ps₀} {ps} {ms} i n e =
-    subst (λ (x : ℕ). Forwarded (engine branch start) ps₀ ps x ms) e (record { bytes = i.bytes; metrics = i.metrics; rest = i.rest })
 
 module _ (rs : List (List ℕ)) (ss : List ℕ) where
   pub branch_le : Rows rs ss → (k s : ℕ) (b : Bool) → k < length ss → s < 32 → branch_by rs ss k s b ≤ 4

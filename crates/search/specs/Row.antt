@@ -40,10 +40,6 @@ pub record OutputsOf (generators : List ℕ) (outputs : List (List ℕ)) : Type 
   pub size : length outputs ≡ length generators
   pub row : (i : ℕ) → i < length generators → OutputsTo (get_or generators i 0) (get_or outputs i []) 64
 
--- each is a bit at each place
-abbrev pub Bits : List (List ℕ) → Type 0
-Bits outputs = (i place : ℕ) → i < length outputs → place < 64 → get_or (get_or outputs i []) place 0 < 2
-
 -- in how many bits those of a place differ, over the observed ones
 unfoldable pub distance_at : List (List ℕ) → List ℕ → ℕ → ℕ
 distance_at outputs received place = tally erased_differ (map (λ (l : List ℕ). bit (get_or l place 0)) outputs) received

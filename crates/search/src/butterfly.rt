@@ -4,7 +4,8 @@ ghost use Rattle.search.specs.Butterfly.{Advanced, Fit};
 
 use crate::select::predecessor_byte;
 
-// The metrics of all states after a step, and a predecessor byte of each.
+// The metrics of all states after a step, and a predecessor byte of each. (Two lists: the next step takes the metrics, the traceback the bytes. No Eq:
+// soft's metrics are doubles.)
 #[derive(Clone, Copy, Debug, PartialEq)]
 pub struct Column<M> {
     pub metrics: M,
@@ -12,6 +13,8 @@ pub struct Column<M> {
 }
 
 // One step of the search. A byte is the predecessor, and 96 more where both cost the same. row: the branch metrics from n into 2 n, 16 of them, from n into 2 n + 1, and the same from n + 16.
+// (By number: a turn reads six places of two lists and writes four of two. Its cast loses nothing below 16,
+// where `u8::try_from` would have an error that never comes.)
 pub fn advance(metrics: [u16; 32], row: [u16; 64]) -> Column<[u16; 32]>
     requires { Fit metrics row }
     ensures { Advanced metrics row result }

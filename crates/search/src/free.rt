@@ -18,7 +18,8 @@ pub struct End {
     pub state: usize,
 }
 
-// The lower of the lowest end so far and one more.
+// The lower of the lowest end so far and one more. (`tailbiting` compares alike, but copies a word where this keeps a state: what both have is three arms.)
+#[tactic(auto, using(crate::proofs::Ends::less, crate::proofs::Ends::even, crate::proofs::Ends::more))]
 fn lower(lowest: End, metric: u16, state: usize) -> End
     ensures { result ≡ lower_of lowest metric state }
 {
@@ -39,6 +40,7 @@ fn lower(lowest: End, metric: u16, state: usize) -> End
     }
 }
 
+// (By number, from 1 on, as the state 0 is the lowest so far: `enumerate().skip(1)` says no more than the range.)
 fn lowest_end(metrics: [u16; 32]) -> End
     ensures { LowestEnd metrics 32 result }
 {

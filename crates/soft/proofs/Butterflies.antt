@@ -4,7 +4,6 @@ use mathlib.Core.Bool.{true, false}
 use mathlib.Core.List.{List}
 use Prim.Native.Nat.{ℕ, ◌+◌, ◌*◌, ◌/◌, ◌%◌, ◌<◌, ◌≤◌}
 use native.Mathlib.Omega.{arith}
-use native.Mathlib.Nat.{not-suc-le-zero}
 use native.Mathlib.Decide.{ℕ_discrete, dec_lt}
 use lib.Dec.{eqb}
 use lib.ListN.{length, get_or, set, length-set}
@@ -50,10 +49,6 @@ pub record Filled (ms zeros ones : List Float) (next : List Float) (predecessors
   pub predecessors_length : length predecessors ≡ 32
   pub metric : Halves nan (metric_into ms zeros ones) next k
   pub chosen : Halves 0 (chosen_into ms zeros ones) predecessors k
-
-pub filled_none : (ms zeros ones next : List Float) (predecessors : List ℕ) → length next ≡ 32 → length predecessors ≡ 32 → Filled ms zeros ones next predecessors 0
-filled_none ms zeros ones next predecessors hn hp =
-    record { low = omega arith; next-length = hn; predecessors_length = hp; metric = λ n h. absurd (not-suc-le-zero h); chosen = λ n h. absurd (not-suc-le-zero h) }
 
 module _ (ms zeros ones : List Float) where
   -- a candidate by its butterfly

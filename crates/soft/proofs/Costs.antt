@@ -9,7 +9,6 @@ use lib.ListN.{get_or}
 use lib.Ieee.{Float, nan, binary64, add}
 use Rattle.bits.specs.Bits.{bit, ◌⊕◌}
 use Rattle.bits.proofs.Tested.{below, below_bit, same_bits, same_bits_eq}
-use Rattle.bits.proofs.Binary.{byte_below}
 use Rattle.coding.specs.Codes.{outputs, tapped, dcch}
 use Rattle.coding.specs.Registers.{memory_high, Stepped}
 use Rattle.trellis.specs.Numbering.{pred_high, newest_high}
@@ -61,9 +60,6 @@ flip_test n = eqb (3 - output_number n false) (output_number n true)
 flipped : (n : ℕ) → n < 16 → 3 - output_number n false ≡ output_number n true
 unfolding flip_test output_of tapped
 flipped n h = eqb→eq (3 - output_number n false) (output_number n true) (below flip_test 16 tt n h)
-
-pub number_below : (n : ℕ) (b : Bool) (x : ℕ) → x ≡ output_number n b → x < 4
-number_below n b x e = omega (arith, byte_below (output_of n b 0), byte_below (output_of n b 1))
 
 module _ (x y : Float) (costs : List Float) (h : PairCosts x y costs) (n : ℕ) (b : n < 16) (pair : ℕ) (e : pair ≡ output_number n false) where
   pub cost_zero : get_or costs pair nan ≡ pair_cost x y (output_of n false 0 ∷ output_of n false 1 ∷ [])

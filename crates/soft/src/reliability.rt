@@ -4,7 +4,7 @@ ghost use Rattle.std.specs.Prelude.{◌≡◌, ◌≤◌, ◌<◌, length};
 ghost use Rattle.bits.specs.Bits.{bit, bits, disagreement};
 ghost use Rattle.soft.specs.Reliability.{all_finite, negative, sign_count};
 
-// Whether no value is a NaN or an infinity.
+// Whether no value is a NaN or an infinity. (No `all`: the loop has no way out before its end, so that it is vectorised.)
 pub fn all_finite(values: &[f64]) -> bool
     ensures { result ≡ all_finite values.now }
 {
@@ -28,8 +28,8 @@ pub fn sign_count(coded: &[u8], values: &[f64]) -> u16
     ensures { result ≡ sign_count (bits coded.now) values.now }
 {
     let mut n = 0;
-    for (i, sent) in coded.iter().enumerate() {
-        n += differs_from_sign(*sent, values[i]);
+    for (sent, value) in coded.iter().zip(values) {
+        n += differs_from_sign(*sent, *value);
     }
     n
 }

@@ -9,8 +9,8 @@ use coding::Code;
 use coding::codes::Dcch;
 use search::Column;
 
-// The branch metrics from the states 2 n, with a zero and with a one. Flipping the oldest input complements both outputs as
-// flipping the newest does, so those from 2 n + 1 are the same two, exchanged.
+// The branch metrics from the states 2 n, with a zero and with a one. (No Eq, as no double has it.) Flipping the oldest input complements both outputs as
+// flipping the newest does, so those from 2 n + 1 are the same two, exchanged. (Two lists, as the loops read each in a row.)
 #[derive(Clone, Copy, Debug, PartialEq)]
 pub struct Branches {
     pub zeros: [f64; 16],
@@ -39,7 +39,7 @@ fn pair_costs(first: f64, second: f64) -> [f64; 4]
     [a + c, a + d, b + c, b + d]
 }
 
-// The output pairs of the states 2 n with a zero, the first bit worth two.
+// The output pairs of the states 2 n with a zero, the first bit worth two. (Over bytes: a number is made a state.)
 pub fn output_pairs() -> [u8; 16]
     ensures { OutputsTo result 16 }
 {
@@ -51,6 +51,7 @@ pub fn output_pairs() -> [u8; 16]
     pairs
 }
 
+// What the steps from the states 2 n cost. (By place: a turn writes two lists.)
 pub fn branch_metrics(pairs: [u8; 16], first: f64, second: f64) -> Branches
     requires { OutputsTo pairs 16 }
     ensures { Branched first second result }
@@ -58,8 +59,8 @@ pub fn branch_metrics(pairs: [u8; 16], first: f64, second: f64) -> Branches
     let costs = pair_costs(first, second);
     let mut zeros = [0.0f64; 16];
     let mut ones = [0.0f64; 16];
-    for n in 0..16 {
-        let pair = usize::from(pairs[n]);
+    for (n, pair) in pairs.iter().enumerate() {
+        let pair = usize::from(*pair);
         zeros[n] = costs[pair];
         ones[n] = costs[3 - pair];
     }
@@ -67,6 +68,7 @@ pub fn branch_metrics(pairs: [u8; 16], first: f64, second: f64) -> Branches
 }
 
 // The lesser of the candidates through a state's two predecessors. (Not `min`, which may give either of two zeros.)
+#[tactic(auto, unfolding(crate::specs::Step::lesser_of))]
 fn lesser(lower: f64, upper: f64) -> f64
     ensures { result ≡ lesser_of lower upper }
 {
@@ -74,6 +76,7 @@ fn lesser(lower: f64, upper: f64) -> f64
 }
 
 // The predecessor of the survivor: the upper one only where its candidate is less.
+#[tactic(auto, unfolding(crate::specs::Step::chosen_of))]
 fn predecessor(lower: f64, upper: f64, from: u8) -> u8
     requires { from < 32 }
     ensures { result ≡ chosen_of lower upper from }
@@ -81,7 +84,9 @@ fn predecessor(lower: f64, upper: f64, from: u8) -> u8
     if upper < lower { from + 1 } else { from }
 }
 
-// Add, compare, select.
+// Add, compare, select. (By number: a turn reads four places of three lists and writes four of two. Its cast loses nothing below 32, where
+// `u8::try_from` would have an error that never comes. The crate `search` has its own: its
+// states are numbered the other way round, its metrics are whole, and of equal ones it marks the tie.)
 fn select(metrics: [f64; 32], branch: Branches) -> Column<[f64; 32]>
     ensures { Selected metrics branch.zeros branch.ones result }
 {
@@ -119,13 +124,13 @@ fn stored(metric: f64, predecessor: u8) -> u8
     }
 }
 
-// The bytes of all states, in a loop of their own, which is vectorised.
+// The bytes of all states, in a loop of their own, which is vectorised. (The two lists by place: a zip of three is no shorter.)
 fn stored_row(metrics: [f64; 32], predecessors: [u8; 32]) -> [u8; 32]
     ensures { (t : ℕ) → t < 32 → get_or result t 0 ≡ stored_of (get_or metrics t nan) (get_or predecessors t 0) }
 {
     let mut row = [0u8; 32];
-    for t in 0..32 {
-        row[t] = stored(metrics[t], predecessors[t]);
+    for (t, byte) in row.iter_mut().enumerate() {
+        *byte = stored(metrics[t], predecessors[t]);
     }
     row
 }

@@ -1,12 +1,11 @@
 -- The rows give the code's costs by place, so that a word's metric is its weight. Assumes nothing.
 use mathlib.Core.Path.{◌≡◌, sym, ap, ◌∙◌}
-use mathlib.Core.Bool.{Bool, true}
+use mathlib.Core.Bool.{Bool}
 use mathlib.Core.List.{List, [], ◌∷◌, reverse}
-use Prim.Native.Nat.{ℕ, zero, suc, ◌+◌, ◌*◌, ◌<◌, ◌≤◌}
+use Prim.Native.Nat.{ℕ, ◌+◌, ◌*◌, ◌<◌, ◌≤◌}
 use native.Mathlib.Omega.{arith}
 use lib.ListN.{length, get_or, drop}
 use Rattle.bits.specs.Bits.{tally}
-use Rattle.bits.proofs.Below.{below_at}
 use Rattle.bits.proofs.Tally.{drop_two}
 use Rattle.coding.specs.Codes.{coded, facch}
 use Rattle.coding.specs.Laws.{facch_laws}
@@ -23,7 +22,7 @@ use Rattle.trellis.proofs.Searching.{found_to}
 use Rattle.tailbiting.specs.Rows.{cost_at, RowOf, RowsTo, NumbersTo}
 use Rattle.tailbiting.specs.Starts.{end_of, tail_metric}
 use Rattle.tailbiting.specs.TailBiting.{tail_weight}
-use Rattle.bits.specs.Observed.{all_erasable, erased_differ}
+use Rattle.bits.specs.Observed.{erased_differ}
 use Rattle.bits.proofs.Erased.{erased_le}
 use Rattle.tailbiting.proofs.Tries.{end_below, leads_end}
 
@@ -37,14 +36,6 @@ unfolding tally
 cost_tally place a b c d r = omega arith
 
 -- the distances of the code's outputs from four received bytes
-pub four_below : (received : List ℕ) → all_erasable received ≡ true → (k : ℕ) → k * 4 + 3 < length received
-    → (i : ℕ) → get_or (get_or received (k * 4) 0 ∷ get_or received (k * 4 + 1) 0 ∷ get_or received (k * 4 + 2) 0 ∷ get_or received (k * 4 + 3) 0 ∷ []) i 0 < 3
-four_below received e k h zero = below_at 3 received e (k * 4) (omega arith)
-four_below received e k h (suc zero) = below_at 3 received e (k * 4 + 1) (omega arith)
-four_below received e k h (suc (suc zero)) = below_at 3 received e (k * 4 + 2) (omega arith)
-four_below received e k h (suc (suc (suc zero))) = below_at 3 received e (k * 4 + 3) (omega arith)
-four_below received e k h (suc (suc (suc (suc i)))) = omega arith
-
 pub row_of : (outputs : List (List ℕ)) (received : List ℕ) (k : ℕ) (row : List ℕ) → OutputsOf (numbers facch) outputs
     → DistancesTo outputs (get_or received (k * 4) 0 ∷ get_or received (k * 4 + 1) 0 ∷ get_or received (k * 4 + 2) 0 ∷ get_or received (k * 4 + 3) 0 ∷ []) row 64 → RowOf received k row
 row_of outputs received k row o d place h = d place h ∙ distance_coded facch outputs o _ place h ∙ sym (cost_tally place _ _ _ _ [])

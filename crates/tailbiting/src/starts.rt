@@ -10,7 +10,7 @@ use search::Received;
 use std::cmp::Ordering;
 use trellis::Outcome;
 
-// What 65 steps received, a bound of each state, and the state that is tried first.
+// What 65 steps received, a bound of each state, and the state that is tried first. (Made for one search, and neither compared nor printed.)
 #[derive(Drop)]
 struct Starts<'a> {
     received: Received<'a>,
@@ -22,27 +22,26 @@ struct Starts<'a> {
     ghost low: { first < 32 },
 }
 
-// A state of the least bound. (Any state would do: a good one leaves few to try.)
+// A state of the least bound. (Any state would do: a good one leaves few to try. A loop: `min_by_key` answers an Option, whose None cannot come here.)
 fn lowest(bounds: &[u16; 32]) -> usize
     ensures { result < 32 }
 {
     let mut at = 0;
-    for state in 1..32 {
-        if bounds[state] < bounds[at] {
+    for (state, bound) in bounds.iter().enumerate() {
+        if *bound < bounds[at] {
             at = state;
         }
     }
     at
 }
 
-// The better of the best word so far, in `inputs`, and the word of one more start. Two of one metric are a tie.
-fn better(best: Outcome, run: Outcome, word: &[u8], inputs: &mut [u8]) -> Outcome
-    requires { length word.now ≡ length inputs.old }
+// The better of the best word so far, in `inputs`, and the word of one more start. Two of one metric are a tie. (`search` compares its ends alike: see there.)
+fn better(best: Outcome, run: Outcome, word: &[u8; 65], inputs: &mut [u8; 65]) -> Outcome
     ensures { (result ≡ better_of best run) × (inputs.new ≡ kept_of best run word.now inputs.old) }
 {
     match run.metric.cmp(&best.metric) {
         Ordering::Less => {
-            inputs.copy_from_slice(word);
+            *inputs = *word;
             run
         }
         Ordering::Equal => Outcome {
@@ -69,8 +68,8 @@ impl<'a> Starts<'a> {
     }
 
     // Tries one more start. It is passed over where its bound is above the best metric: an equal one could be a tie.
-    fn visit(&self, turn: usize, best: Outcome, inputs: &mut [u8]) -> Outcome
-        requires turn { (turn < 32) × (length inputs.old ≡ 65) }
+    fn visit(&self, turn: usize, best: Outcome, inputs: &mut [u8; 65]) -> Outcome
+        requires turn { turn < 32 }
         requires found { Found (Tried self.now.first turn) (tail_metric (branch_by self.now.received.rows.now self.now.received.symbols.now)) inputs.old best }
         ensures { Found (Tried self.now.first (turn + 1)) (tail_metric (branch_by self.now.received.rows.now self.now.received.symbols.now)) inputs.new result }
     {
@@ -85,9 +84,9 @@ impl<'a> Starts<'a> {
     }
 }
 
-// Tries all 32 starts, from a state of the least bound on.
-pub fn search(received: Received, inputs: &mut [u8]) -> Outcome
-    requires { (length received.symbols.now ≡ 65) × (length inputs.old ≡ 65) }
+// Tries all 32 starts, from a state of the least bound on. (By number: a turn is no place of a list, but how far a start is from the first.)
+pub fn search(received: Received, inputs: &mut [u8; 65]) -> Outcome
+    requires { length received.symbols.now ≡ 65 }
     ensures { Found (OfLength 65) (tail_metric (branch_by received.entry.rows.now received.entry.symbols.now)) inputs.new result }
 {
     let starts = Starts::new(received);

@@ -1,14 +1,14 @@
 -- The rows and the symbols give the code's costs by place, so that a word's metric is its weight. Assumes nothing.
 use mathlib.Core.Path.{◌≡◌, refl, sym, ap, ap₂, ◌∙◌}
-use mathlib.Core.Bool.{Bool, true, false}
+use mathlib.Core.Bool.{Bool, false}
 use mathlib.Core.List.{List, [], ◌∷◌}
 use Prim.Native.Nat.{ℕ, ◌+◌, ◌*◌, ◌/◌, ◌%◌, ◌<◌, ◌≤◌}
 use native.Mathlib.Omega.{arith}
 use lib.ListN.{length, get_or, drop, length-map, get_or-map}
-use Rattle.bits.specs.Bits.{bit, bits, disagreement, tally, all_binary}
+use Rattle.bits.specs.Bits.{bit, bits, disagreement, tally}
 use Rattle.bits.specs.Observed.{erased_differ}
 use Rattle.bits.proofs.Erased.{erased_seen}
-use Rattle.bits.proofs.Binary.{differ_le, binary_at}
+use Rattle.bits.proofs.Binary.{differ_le, bit_low}
 use Rattle.bits.proofs.Tally.{drop_two}
 use Rattle.coding.specs.Codes.{dcch}
 use Rattle.coding.specs.Laws.{dcch_laws}
@@ -51,14 +51,14 @@ pair_distances {outputs} row {first} {second} o h g d place low =
 
 -- ---- the rows
 module _ (coded symbols : List ℕ) (rows : List (List ℕ)) (n : ℕ) (four : length rows ≡ 4) (size : length symbols ≡ n) (twice : length coded ≡ n * 2)
-    (binary : all_binary coded ≡ true) (pairs : PairsTo rows 4) (read : SymbolsTo coded symbols n) where
+    (pairs : PairsTo rows 4) (read : SymbolsTo coded symbols n) where
   -- a symbol's two bits
-  symbol : (k : ℕ) → k < n → (get_or symbols k 0 < 4) × (get_or symbols k 0 / 2 ≡ get_or coded (k * 2) 0) × (get_or symbols k 0 % 2 ≡ get_or coded (k * 2 + 1) 0)
+  symbol : (k : ℕ) → k < n → (get_or symbols k 0 < 4) × (bit (get_or symbols k 0 / 2) ≡ bit (get_or coded (k * 2) 0)) × (bit (get_or symbols k 0 % 2) ≡ bit (get_or coded (k * 2 + 1) 0))
   symbol k h =
       let e : get_or symbols k 0 ≡ pair_of coded k = read k h in
-      let a : get_or coded (k * 2) 0 < 2 = binary_at coded binary (k * 2) (omega arith) in
-      let b : get_or coded (k * 2 + 1) 0 < 2 = binary_at coded binary (k * 2 + 1) (omega arith) in
-      (omega arith, omega arith, omega arith)
+      let high : get_or symbols k 0 / 2 ≡ get_or coded (k * 2) 0 % 2 = omega arith in
+      let low : get_or symbols k 0 % 2 ≡ get_or coded (k * 2 + 1) 0 % 2 = omega arith in
+      (omega arith, ap bit high ∙ bit_low _, ap bit low ∙ bit_low _)
 
   -- what was received of a step
   received : (k : ℕ) → k < n → drop (k * 2) (bits coded) ≡ bit (get_or coded (k * 2) 0) ∷ bit (get_or coded (k * 2 + 1) 0) ∷ drop (k * 2 + 2) (bits coded)
@@ -69,7 +69,7 @@ module _ (coded symbols : List ℕ) (rows : List (List ℕ)) (n : ℕ) (four : l
   row : (k : ℕ) → k < n → RowAt dcch disagreement (bits coded) rows symbols k
   row k h place low =
       pairs (get_or symbols k 0) (symbol k h).0 place low
-      ∙ ap₂ (λ (p q : Bool). distance_at place p q) (ap bit (symbol k h).1) (ap bit (symbol k h).2)
+      ∙ ap₂ (λ (p q : Bool). distance_at place p q) (symbol k h).1 (symbol k h).2
       ∙ distance_tally place (bit (get_or coded (k * 2) 0)) (bit (get_or coded (k * 2 + 1) 0)) (drop (k * 2 + 2) (bits coded))
       ∙ ap (tally disagreement (outputs_at dcch place)) (sym (received k h))
 

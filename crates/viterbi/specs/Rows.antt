@@ -18,7 +18,7 @@ PairsTo rows k = (i : ℕ) → i < k → DistancesTo (bit (i / 2)) (bit (i % 2))
 
 -- the number of the pair that a step receives
 abbrev pub pair_of : List ℕ → ℕ → ℕ
-pair_of coded k = get_or coded (k * 2) 0 * 2 + get_or coded (k * 2 + 1) 0
+pair_of coded k = get_or coded (k * 2) 0 % 2 * 2 + get_or coded (k * 2 + 1) 0 % 2
 
 abbrev pub SymbolsTo : List ℕ → List ℕ → ℕ → Type 0
 SymbolsTo coded symbols n = (k : ℕ) → k < n → get_or symbols k 0 ≡ pair_of coded k

@@ -1,4 +1,4 @@
--- `search::row::distances` meets its contract: the places passed hold the distances. Assumes nothing.
+-- `search::row::distances` meets its contract: the sums passed are made wider. Assumes nothing.
 use Rattle.std.proofs.Common.{◌≡◌}
 use Rattle.bits.proofs.Filled.{Filling}
 use Rattle.search.specs.Row.{distance_at}

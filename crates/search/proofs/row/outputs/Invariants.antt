@@ -5,4 +5,4 @@ use Rattle.search.specs.Row.{OutputsTo}
 use Rattle.search.proofs.row.outputs.Given as goal
 
 abbrev pub invariant-loop-i : goal.invariant-loop-i
-invariant-loop-i g l = Filling (λ i output. OutputsTo (get_or l.generators i 0) output 64) [] (length l.generators) l.outputs l.i
+invariant-loop-i g l = Filling (λ i output. OutputsTo (get_or l.fn.generators i 0) output 64) [] (length l.fn.generators) l.outputs l.i

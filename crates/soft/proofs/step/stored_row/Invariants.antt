@@ -7,4 +7,4 @@ use Rattle.soft.specs.Step.{stored_of}
 use Rattle.soft.proofs.step.stored_row.Given as goal
 
 abbrev pub invariant-loop-t : goal.invariant-loop-t
-invariant-loop-t l = Filling (λ i x. x ≡ stored_of (get_or l.metrics i nan) (get_or l.predecessors i 0)) 0 32 l.row l.t
+invariant-loop-t l = Filling (λ i x. x ≡ stored_of (get_or l.metrics i nan) (get_or l.predecessors i 0)) 0 32 l.byte-items l.t
