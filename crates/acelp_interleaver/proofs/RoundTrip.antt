@@ -13,7 +13,7 @@ use Rattle.interleaving.proofs.RoundTrip.{collected-carried}
 use Rattle.acelp_interleaver.specs.Wire.{place_at, wire_of, slots_of, age_of, third, interleaved, deinterleaved, InterleavingCall, DeinterleavingCall}
 use Rattle.acelp_interleaver.specs.declared.Interleaving.{Interleaving}
 use Rattle.acelp_interleaver.specs.declared.Interleaving.TheVariants.{One, Two, Three}
-use Rattle.acelp_interleaver.proofs.Table.{wire_below, place_of_wire}
+use Rattle.acelp_interleaver.specs.Laws.{order_laws}
 
 age_below : (mode : Interleaving) (row : ℕ) → age_of mode row < slots_of mode
 age_below One row = omega arith
@@ -27,7 +27,7 @@ pub carried_back : {A : Type 0} (d : A) (mode : Interleaving) (slots x : List A)
     → deinterleaved d slots mode ≡ x
 unfolding interleaved deinterleaved
 carried_back d mode slots x history size carry same =
-    collected-carried d place_at wire_of wire_below place_of_wire
+    collected-carried d place_at wire_of order_laws.wire_below order_laws.place_of_wire
     (λ row. third slots (age_of mode row)) (λ row other. third (history (age_of mode row)) (2 - age_of mode other)) x size
     (λ row h. carry (age_of mode row) (age_below mode row)) (λ row h. same (age_of mode row) (age_below mode row))
 

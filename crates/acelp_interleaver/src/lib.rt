@@ -4,11 +4,11 @@
 
 ghost use Rattle.std.specs.Prelude.{◌≡◌, ◌<◌, length};
 ghost use Rattle.acelp_interleaver.specs.Laws.{order_laws};
-ghost use Rattle.acelp_interleaver.specs.Wire.{DeinterleavingCall, InterleavingCall, deinterleaved, interleaved, place_of, slots_of, third, wire_of};
+ghost use Rattle.acelp_interleaver.specs.Wire.{DeinterleavingCall, InterleavingCall, deinterleaved, interleaved, place_of, slots_of, wire_of};
 
 use bits::Refusal;
 use bits::arguments::bits_and_room;
-use interleaving::{SlotOrder, carry_rows, collect_rows};
+use interleaving::{CARRY, COLLECT, SlotOrder, copy_rows};
 
 // Over how many slots a frame is spread.
 #[derive(Clone, Copy, Debug, PartialEq, Eq)]
@@ -62,6 +62,7 @@ static INTERLEAVER: [[u16; 10]; 26] = [
     [24, 49, 74, 99, 124, 149, 174, 199, 252, 251],
 ];
 
+// A type alone: no value of it is made, so that nothing is derived.
 struct AcelpOrder;
 
 impl SlotOrder for AcelpOrder {
@@ -76,23 +77,15 @@ impl SlotOrder for AcelpOrder {
     }
 }
 
-// One of three frames or slots.
-fn third(all: &[u8], k: usize) -> &[u8]
-    requires { (length all.now ≡ 780) × (k < 3) }
-    ensures { (result.now ≡ third all.now k) × (length result.now ≡ 260) }
-{
-    &all[CHANNEL_BITS * k..CHANNEL_BITS * (k + 1)]
-}
-
 // Writes the slot of a history of three frames.
 fn carry(history: &[u8], mode: Interleaving, slot: &mut [u8])
     requires { (length history.now ≡ 780) × (length slot.old ≡ 260) }
     ensures { slot.new ≡ interleaved 0 history.now mode }
 {
     let slots = mode.slots();
-    for first in 0..slots {
-        let frame = 3 - slots + first;
-        carry_rows::<AcelpOrder>(first, slots, third(history, frame), slot);
+    let (frames, _) = history.as_chunks::<CHANNEL_BITS>();
+    for (first, frame) in frames[3 - slots..].iter().enumerate() {
+        copy_rows::<AcelpOrder, CARRY>(first, slots, frame, slot);
     }
 }
 
@@ -102,9 +95,9 @@ fn collect(slots: &[u8], mode: Interleaving, frame: &mut [u8])
     ensures { frame.new ≡ deinterleaved 0 slots.now mode }
 {
     let spread = mode.slots();
-    for first in 0..spread {
-        let slot = spread - 1 - first;
-        collect_rows::<AcelpOrder>(first, spread, third(slots, slot), frame);
+    let (slots, _) = slots.as_chunks::<CHANNEL_BITS>();
+    for (age, slot) in slots[..spread].iter().enumerate() {
+        copy_rows::<AcelpOrder, COLLECT>(spread - 1 - age, spread, slot, frame);
     }
 }
 

@@ -1,11 +1,10 @@
 -- Interleaving and deinterleaving undo each other, over elements of any type, and commute with a function of the elements. Assumes nothing.
-use mathlib.Core.Path.{◌≡◌, sym, ap, ◌∙◌}
-use mathlib.Core.Bool.{Bool, true, false}
+use mathlib.Core.Path.{◌≡◌, sym, ◌∙◌}
+use mathlib.Core.Bool.{Bool, false}
 use mathlib.Core.List.{List, map}
 use Prim.Native.Nat.{ℕ, ◌<◌}
 use lib.ListN.{length, get_or, length-map, get_or-map}
-use Rattle.bits.specs.Bits.{bit, byte, bits, bytes, all_binary}
-use Rattle.bits.proofs.Binary.{binary_bytes, bytes_bits}
+use Rattle.bits.specs.Bits.{bit, byte, bits, bytes}
 use Rattle.dcch_interleaver.specs.declared.BlockFormat.{BlockFormat}
 use Rattle.dcch_interleaver.specs.Formats.{encoded_bits}
 use Rattle.dcch_interleaver.specs.Wire.{wire_order, cell_at, wire_of, interleaved, deinterleaved}
@@ -56,14 +55,5 @@ module _ {A : Type 0} (f : BlockFormat) (d : A) (l : List A) where
 pub bytes-interleaved : (f : BlockFormat) (w : List Bool) → bytes (interleaved f false w) ≡ interleaved f 0 (bytes w)
 bytes-interleaved f w = map-interleaved f false w byte
 
-pub bytes-deinterleaved : (f : BlockFormat) (w : List Bool) → bytes (deinterleaved f false w) ≡ deinterleaved f 0 (bytes w)
-bytes-deinterleaved f w = map-deinterleaved f false w byte
-
 pub bits-deinterleaved : (f : BlockFormat) (l : List ℕ) → bits (deinterleaved f 0 l) ≡ deinterleaved f false (bits l)
 bits-deinterleaved f l = map-deinterleaved f 0 l bit
-
-pub binary_deinterleaved : (f : BlockFormat) (l : List ℕ) → all_binary l ≡ true → all_binary (deinterleaved f 0 l) ≡ true
-binary_deinterleaved f l e =
-    ap (λ (m : List ℕ). all_binary (deinterleaved f 0 m)) (sym (bytes_bits l e))
-    ∙ ap all_binary (sym (bytes-deinterleaved f (bits l)))
-    ∙ binary_bytes (deinterleaved f false (bits l))

@@ -1,6 +1,6 @@
 -- The loops that pass the wires in order, at each wire its cell: what is left of the order, and what the wires passed hold, or what their cells hold.
 -- A cell that was written is not written again, since each cell has one wire. Assumes nothing.
-use Rattle.std.proofs.Common.{◌≡◌, ℕ, suc, zero, ◌+◌, ◌-◌, ◌<◌, ◌≤◌, List, [], ◌∷◌, ◌++◌, length, get_or, set, drop, length-drop, refl, sym, ap, subst, ◌∙◌, append_assoc, append-nil, arith}
+use Rattle.std.proofs.Common.{◌≡◌, Bool, true, false, cond, ℕ, suc, zero, ◌+◌, ◌-◌, ◌<◌, ◌≤◌, List, [], ◌∷◌, ◌++◌, length, get_or, set, drop, length-drop, refl, sym, ap, subst, ◌∙◌, append_assoc, append-nil, arith}
 use Rattle.std.proofs.lemmas.List.{get_or_read, drop_more}
 use native.Mathlib.Decide.{ℕ_discrete}
 use native.Mathlib.Nat.{not-suc-le-zero}
@@ -185,3 +185,45 @@ module _ {A : Type 0} {f : BlockFormat} {d : A} {wires cells : List A} {wire : �
 pub receiving_next : {A : Type 0} {f : BlockFormat} {wires cells : List A} {wire cell : ℕ} {x : A} → ((d : A) → Receiving f d wires cells wire) → wire < encoded_bits f → cell ≡ cell_at f wire
     → wire < length wires → x ≡ get_or wires wire x → (d : A) → Receiving f d wires (set cells cell x) (wire + 1)
 receiving_next {wires = wires} {wire = wire} {x = x} s h e low read d = rw e (receiving_more (s d) h (get_or_read wires wire x low read d))
+
+-- ---- `copy_in_order`: the one or the other
+pub record Copying {A : Type 0} (sends : Bool) (f : BlockFormat) (d : A) (from to : List A) (wire : ℕ) : Type 0 where
+  pub sent : sends ≡ true → Sending f d from to wire
+  pub received : sends ≡ false → Receiving f d from to wire
+
+pub copying_none : {A : Type 0} {sends : Bool} (f : BlockFormat) {d : A} {from to : List A} → length to ≡ encoded_bits f → Copying sends f d from to 0
+copying_none f e = record { sent = λ t. sending_none f e; received = λ t. receiving_none f e }
+
+-- the wire, and both places, are inside
+pub places_inside : (sends : Bool) {f : BlockFormat} {first row cell wire : ℕ} {at : ℕ × ℕ} → Cells f first row cell wire → cell < encoded_bits f → at ≡ cond sends (cell, wire) (wire, cell)
+    → (at.0 < encoded_bits f) × (at.1 < encoded_bits f) × (wire < 260)
+places_inside sends {f} {cell = cell} {wire = wire} {at = at} stands low which = go sends which
+  where
+    within : wire < encoded_bits f
+    within = (cell_passed stands low).0
+
+    go : (b : Bool) → at ≡ cond b (cell, wire) (wire, cell) → (at.0 < encoded_bits f) × (at.1 < encoded_bits f) × (wire < 260)
+    go true e = rw e (low, within, omega (arith, within, (format_small f).2))
+    go false e = rw e (within, low, omega (arith, within, (format_small f).2))
+
+module _ {A : Type 0} {sends : Bool} {f : BlockFormat} {from to : List A} {wire : ℕ} where
+  pub copying_done : {d : A} → Copying sends f d from to wire → encoded_bits f ≤ wire → to ≡ cond sends (interleaved f d from) (deinterleaved f d from)
+  copying_done {d} s h = go sends refl
+    where
+      go : (b : Bool) → sends ≡ b → to ≡ cond b (interleaved f d from) (deinterleaved f d from)
+      go true e = sending_done (s.sent e) h
+      go false e = receiving_done (s.received e) h
+
+  -- a wire is passed: its cell is copied, and then comes the next of its row
+  pub copying_next : {first row cell : ℕ} {at : ℕ × ℕ} {x : A} → Cells f first row cell wire → ((d : A) → Copying sends f d from to wire) → length from ≡ encoded_bits f → cell < length from
+      → at ≡ cond sends (cell, wire) (wire, cell) → x ≡ get_or from at.0 x → Cells f first row (cell + rows_of f) (wire + 1) × ((d : A) → Copying sends f d from (set to at.1 x) (wire + 1))
+  copying_next {cell = cell} {at = at} {x = x} stands s size low which read =
+      let p = cell_passed stands (omega arith) in (
+        p.2,
+        λ d. record {
+          sent = λ t. let e : at ≡ (cell, wire) = which ∙ ap (λ (b : Bool). cond b (cell, wire) (wire, cell)) t in
+              rw e (sending_next (λ d. (s d).sent t) p.0 p.1 low (rw e at read) d);
+          received = λ t. let e : at ≡ (wire, cell) = which ∙ ap (λ (b : Bool). cond b (cell, wire) (wire, cell)) t in
+              rw e (receiving_next (λ d. (s d).received t) p.0 p.1 (omega (arith, p.0)) (rw e at read) d);
+        },
+      )

@@ -1,19 +1,16 @@
--- The wire order is a permutation of the cells, with `wire_of` its inverse, and `next_cell` steps through it: tests that antt computes over the table of each format.
+-- The wire order is a permutation of the cells, with `wire_of` its inverse; tests that antt computes over the table of each format.
 -- Assumes nothing.
 use mathlib.Core.Path.{◌≡◌, refl}
-use mathlib.Core.Bool.{Bool}
-use mathlib.Core.List.{List}
-use Prim.Native.Nat.{ℕ, ◌+◌, ◌-◌, ◌<◌, ◌≤◌}
+use Prim.Native.Nat.{ℕ, ◌<◌, ◌≤◌}
 use native.Mathlib.Omega.{arith}
-use lib.Dec.{T, eqb, eqb→eq}
-use lib.ListN.{length, get_or}
+use lib.Dec.{T}
+use lib.ListN.{length}
 use Rattle.bits.specs.Places.{place_in}
 use Rattle.bits.proofs.Permuted.{permutes, stands, found, element_below, place_of_element, place_below, element_of_place}
-use Rattle.bits.proofs.Tested.{every, below}
 use Rattle.dcch_interleaver.specs.declared.BlockFormat.{BlockFormat}
 use Rattle.dcch_interleaver.specs.declared.BlockFormat.TheVariants.{Forward, ReverseNormal, ReverseAbbreviated}
 use Rattle.dcch_interleaver.specs.Formats.{encoded_bits, rows_of}
-use Rattle.dcch_interleaver.specs.Wire.{across, every_second, wire_order, cell_at, wire_of, next_cell}
+use Rattle.dcch_interleaver.specs.Wire.{across, every_second, wire_order, cell_at, wire_of}
 
 pub order_length : (f : BlockFormat) → length (wire_order f) ≡ encoded_bits f
 unfolding across every_second wire_order
@@ -21,13 +18,7 @@ order_length Forward = refl
 order_length ReverseNormal = refl
 order_length ReverseAbbreviated = refl
 
-pub first_cell : (f : BlockFormat) → cell_at f 0 ≡ 0
-unfolding across every_second wire_order cell_at
-first_cell Forward = refl
-first_cell ReverseNormal = refl
-first_cell ReverseAbbreviated = refl
-
--- the bounds of `next_cell`
+-- the bounds of a format
 pub format_small : (f : BlockFormat) → (0 < rows_of f) × (rows_of f ≤ 13) × (encoded_bits f ≤ 260)
 format_small Forward = (omega arith, omega arith, omega arith)
 format_small ReverseNormal = (omega arith, omega arith, omega arith)
@@ -67,17 +58,3 @@ module _ (f : BlockFormat) where
   pub cell_of_wire : (cell : ℕ) → cell < encoded_bits f → cell_at f (wire_of f cell) ≡ cell
   unfolding cell_at wire_of
   cell_of_wire = element_of_place (wire_order f) (encoded_bits f) (order_length f) (passed f)
-
--- ---- the rule for the next cell, at each wire with one after it
-unfoldable next_test : BlockFormat → List ℕ → ℕ → Bool
-next_test f order wire = eqb (next_cell (rows_of f) (encoded_bits f) (get_or order wire 0)) (get_or order (wire + 1) 0)
-
-next_passed : (f : BlockFormat) → T (every (next_test f (wire_order f)) (encoded_bits f - 1))
-unfolding next_test across every_second wire_order next_cell
-next_passed Forward = tt
-next_passed ReverseNormal = tt
-next_passed ReverseAbbreviated = tt
-
-pub next_cell_lem : (f : BlockFormat) (wire : ℕ) → wire + 1 < encoded_bits f → next_cell (rows_of f) (encoded_bits f) (cell_at f wire) ≡ cell_at f (wire + 1)
-unfolding next_test cell_at
-next_cell_lem f wire h = eqb→eq _ _ (below (next_test f (wire_order f)) (encoded_bits f - 1) (next_passed f) wire (omega arith))

@@ -1,5 +1,5 @@
 -- The interleaver (IS-136.1-A 4.4.3.2): coded bits fill the cells by columns and are sent by rows, the even rows first. Absent cells are left out.
-use Rattle.std.specs.Prelude.{cond, List, [], ◌∷◌, ◌++◌, ℕ, zero, suc, ◌+◌, ◌%◌, ltb, get_or}
+use Rattle.std.specs.Prelude.{cond, List, [], ◌∷◌, ◌++◌, ℕ, zero, suc, ◌+◌, ltb, get_or}
 use Rattle.bits.specs.Places.{listed, place_in}
 use Rattle.dcch_interleaver.specs.declared.BlockFormat.{BlockFormat}
 use Rattle.dcch_interleaver.specs.Formats.{encoded_bits, rows_of}
@@ -24,10 +24,6 @@ cell_at f wire = get_or (wire_order f) wire 0
 
 unfoldable pub wire_of : BlockFormat → ℕ → ℕ
 wire_of f cell = place_in (wire_order f) cell
-
--- the wire order by a rule: after a cell comes the next of its row, past the row's end the start of the row two on, and past the even rows the start of row 1
-unfoldable pub next_cell : ℕ → ℕ → ℕ → ℕ
-next_cell rows cells cell = cond (ltb (cell + rows) cells) (cell + rows) (cond (ltb (cell % rows + 2) rows) (cell % rows + 2) 1)
 
 -- what is sent of the cells, and the cells of what was received; d stands for an element that a list lacks
 unfoldable pub interleaved : {A : Type 0} → BlockFormat → A → List A → List A

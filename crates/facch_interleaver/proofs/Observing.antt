@@ -7,7 +7,7 @@ use Rattle.interleaving.proofs.Parts.{even_rows_last, odd_rows_last}
 use Rattle.facch_interleaver.specs.declared.WordHalf.{WordHalf}
 use Rattle.facch_interleaver.specs.declared.WordHalf.TheVariants.{Start, End}
 use Rattle.facch_interleaver.specs.Wire.{wire_of, deinterleaved, observed, parity_of}
-use Rattle.facch_interleaver.proofs.Table.{wire_below}
+use Rattle.facch_interleaver.specs.Laws.{order_laws}
 
 -- bytes 2, as a half that a slot of bytes 2 carries
 twos : {coded : List ℕ} (parity : ℕ) → coded ≡ replicate 260 2
@@ -15,7 +15,7 @@ twos : {coded : List ℕ} (parity : ℕ) → coded ≡ replicate 260 2
 twos {coded} parity e =
     record {
       size = ap length e ∙ length-replicate {A = ℕ} 260 2;
-      right = λ p b o. ap (λ (l : List ℕ). get_or l p 0) e ∙ get_or-replicate {A = ℕ} 260 p 2 0 b ∙ sym (get_or-replicate {A = ℕ} 260 (wire_of p) 2 0 (wire_below p b));
+      right = λ p b o. ap (λ (l : List ℕ). get_or l p 0) e ∙ get_or-replicate {A = ℕ} 260 p 2 0 b ∙ sym (get_or-replicate {A = ℕ} 260 (wire_of p) 2 0 (order_laws.wire_below p b));
       kept = λ p b n. refl;
     }
 

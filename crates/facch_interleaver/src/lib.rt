@@ -9,7 +9,7 @@ ghost use Rattle.facch_interleaver.specs.Wire.{Deinterleaving, Interleaving, Obs
 use bits::Refusal;
 use bits::arguments::bits_and_room;
 use bits::observed::UNOBSERVED;
-use interleaving::{SlotOrder, collect_rows};
+use interleaving::{COLLECT, SlotOrder, copy_rows};
 
 // The half of a word that a slot carries: its odd rows start a word, its even rows end one.
 #[derive(Clone, Copy, Debug, PartialEq, Eq)]
@@ -31,6 +31,7 @@ const EARLY_COLUMN_STEP: usize = 25;
 // What the rows of the columns from four on count from.
 static LATE_COLUMN_BASES: [usize; 6] = [230, 88, 113, 138, 163, 189];
 
+// A type alone: no value of it is made, so that nothing is derived.
 struct FacchOrder;
 
 impl SlotOrder for FacchOrder {
@@ -66,7 +67,7 @@ impl WordHalf {
     }
 }
 
-// Writes the slot that finishes the previous word and starts the current one.
+// Writes the slot that finishes the previous word and starts the current one. (The generic call with this crate's order, so that the order stays private.)
 #[tactic(auto, unfolding(crate::specs::Wire::interleaved))]
 pub fn interleave(previous: &[u8], current: &[u8], slot: &mut [u8]) -> Result<(), Refusal>
     ensures { Interleaving previous.now current.now slot.old slot.new result }
@@ -80,7 +81,7 @@ pub fn observe_half(slot: &[u8], half: WordHalf, coded: &mut [u8]) -> Result<(),
 {
     bits_and_room(260, slot, 260, coded.len())?;
     coded.fill(UNOBSERVED);
-    collect_rows::<FacchOrder>(half.parity(), 2, slot, coded);
+    copy_rows::<FacchOrder, COLLECT>(half.parity(), 2, slot, coded);
     Ok(())
 }
 

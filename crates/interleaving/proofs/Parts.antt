@@ -8,7 +8,7 @@ use lib.Seq.{get_or-set_same, get_or-set_other}
 use borrow.Author.Tests.{eq-eqb, ne_eqb}
 use Rattle.bits.specs.Places.{listed}
 use Rattle.bits.proofs.Listed.{is_listed}
-use Rattle.interleaving.specs.Parts.{Part}
+use Rattle.interleaving.specs.Parts.{Part, wire_for, read_for}
 use Rattle.interleaving.specs.Slots.{by_row}
 
 -- nothing is written yet
@@ -65,9 +65,6 @@ part_listed {Of} {f} {g} {out₀} {out} s decide written left = is_listed 260 g 
 pub record Columns (wire_of f : ℕ → ℕ) (row : ℕ) (out₀ out : List ℕ) (k : ℕ) : Type 0 where
   pub part : Part (λ p. (wire_of p / 10 ≡ row) × (wire_of p % 10 < k)) f out₀ out
 
-pub columns_none : {wire_of f : ℕ → ℕ} {row : ℕ} {out : List ℕ} → length out ≡ 260 → Columns wire_of f row out out 0
-columns_none e = record { part = part_none e (λ p o. omega arith) }
-
 module _ {wire_of f : ℕ → ℕ} {row : ℕ} {out₀ out : List ℕ} {k : ℕ} (s : Columns wire_of f row out₀ out k) where
   -- q is the only place of its bit
   pub columns_more : {q v : ℕ} → k < 10 → q < 260 → wire_of q ≡ row * 10 + k → v ≡ f q
@@ -78,8 +75,9 @@ module _ {wire_of f : ℕ → ℕ} {row : ℕ} {out₀ out : List ℕ} {k : ℕ}
             (λ p b o n. (o.0, let m : wire_of p ≡ wire_of q → ⊥ = λ same. n (once p b same) in omega arith)) (λ p o. (o.0, omega arith));
       }
 
-  pub columns_done : 10 ≤ k → Part (λ p. wire_of p / 10 ≡ row) f out₀ out
-  columns_done h = part_same s.part (λ p b o. (o, omega arith)) (λ p b o. o.0)
+-- copied between a frame and a slot
+abbrev pub CopiedColumns : Bool → (ℕ → ℕ → ℕ) → (ℕ → ℕ) → List ℕ → ℕ → List ℕ → List ℕ → ℕ → Type 0
+CopiedColumns carries place_of wire_of from row = Columns (wire_for carries wire_of) (λ p. get_or from (read_for carries place_of wire_of p) 0) row
 
 -- ---- every so many rows: those below a row are written
 -- two numbers of one remainder are the same or so far apart

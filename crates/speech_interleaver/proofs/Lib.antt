@@ -1,3 +1,2 @@
 -- The laws.
-pub mod Order
 pub mod RoundTrip

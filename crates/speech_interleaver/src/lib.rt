@@ -9,7 +9,7 @@ ghost use Rattle.speech_interleaver.specs.Wire.{Deinterleaving, Interleaving, pl
 use bits::Refusal;
 use interleaving::{ROWS, SlotOrder};
 
-// A frame is written by columns and sent by rows.
+// A frame is written by columns and sent by rows. (A type alone: no value of it is made, so that nothing is derived.)
 struct VselpOrder;
 
 impl SlotOrder for VselpOrder {
@@ -24,7 +24,7 @@ impl SlotOrder for VselpOrder {
     }
 }
 
-// Writes the slot that finishes the previous frame and starts the current one.
+// Writes the slot that finishes the previous frame and starts the current one. (The generic call with this crate's order, so that the order stays private.)
 #[tactic(auto, unfolding(crate::specs::Wire::interleaved))]
 pub fn interleave(previous: &[u8], current: &[u8], slot: &mut [u8]) -> Result<(), Refusal>
     ensures { Interleaving previous.now current.now slot.old slot.new result }

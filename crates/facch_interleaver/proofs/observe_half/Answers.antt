@@ -9,4 +9,4 @@ pub returns : goal.returns
 returns c =
     let size : length c.args.coded.now ≡ 260 = (passed_room 260 c.args.slot.now 260 _ c.bits_and_room.ensures c.in_ok-bits_and_room.was).1 in
     let twos = c.fill.ensures.after (search rules) ∙ ap (λ n. replicate {A = ℕ} n 2) size in
-    done_end c.bits_and_room.ensures c.in_ok-bits_and_room.was (one_half c.args.half c.args.slot.now c.parity.ensures.0 twos c.collect_rows.ensures)
+    done_end c.bits_and_room.ensures c.in_ok-bits_and_room.was (one_half c.args.half c.args.slot.now c.parity.ensures.0 twos c.copy_rows.ensures)

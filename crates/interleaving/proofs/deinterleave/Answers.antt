@@ -8,4 +8,4 @@ pub returns : goal.returns
 unfolding collected
 returns g c =
     let wire_of = g.O.SlotOrder.wire_of in
-    done_end c.two_and_room.ensures c.in_ok-two_and_room.was (even_rows_last wire_of wire_of c.args.second.now c.args.first.now c.collect_rows.ensures c.collect_rows-2.ensures)
+    done_end c.two_and_room.ensures c.in_ok-two_and_room.was (even_rows_last wire_of wire_of c.args.second.now c.args.first.now c.copy_rows.ensures c.copy_rows-2.ensures)

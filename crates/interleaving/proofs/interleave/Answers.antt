@@ -8,4 +8,4 @@ use Rattle.interleaving.proofs.interleave.Goals as goal
 pub returns : goal.returns
 unfolding carried
 returns g c =
-    done_end c.two_and_room.ensures c.in_ok-two_and_room.was (odd_rows_last (λ w. w) (at_wire g.O.SlotOrder.place_of) c.args.previous.now c.args.current.now c.carry_rows.ensures c.carry_rows-2.ensures)
+    done_end c.two_and_room.ensures c.in_ok-two_and_room.was (odd_rows_last (λ w. w) (at_wire g.O.SlotOrder.place_of) c.args.previous.now c.args.current.now c.copy_rows.ensures c.copy_rows-2.ensures)
