@@ -1,8 +1,8 @@
--- What `decode` and `nearest_word` ask of their calls, and what they answer. Assumes nothing.
+-- What `decode` asks of its call, and what it and `nearest_word` answer. Assumes nothing.
 use mathlib.Core.Path.{◌≡◌, ap, subst, ◌∙◌}
 use mathlib.Core.Bool.{Bool, true, false}
 use mathlib.Core.List.{List, ◌++◌, reverse}
-use Prim.Native.Nat.{ℕ, ◌+◌, ◌*◌, ◌/◌, ◌≤◌}
+use Prim.Native.Nat.{ℕ, ◌+◌, ◌/◌, ◌≤◌}
 use native.Mathlib.Omega.{arith}
 use lib.ListN.{length, take, drop, replicate}
 use Rattle.bits.specs.Bits.{bits, all_binary}
@@ -21,30 +21,20 @@ use Rattle.dcch.specs.declared.crc.CrcMode.{CrcMode}
 use Rattle.dcch_interleaver.specs.Formats.{encoded_bits, information_bits}
 use Rattle.dcch_interleaver.specs.Wire.{deinterleaved}
 use Rattle.dcch.specs.Blocks.{decode_arguments, FoundWord, Finished, Decoding}
-use Rattle.dcch_interleaver.proofs.Interleaved.{bits-deinterleaved, binary_deinterleaved}
+use Rattle.dcch_interleaver.proofs.Interleaved.{bits-deinterleaved}
 use Rattle.dcch.proofs.Encodings.{format_sizes}
 
 pub half_bits : (f : BlockFormat) → encoded_bits f / 2 ≡ information_bits f + 21
 half_bits f = omega (arith, (format_sizes f).0)
 
 -- ---- `nearest_word`: the first n of 260 zeros become the cells
-module _ (f : BlockFormat) (block : List ℕ) (binary : all_binary block ≡ true) (n : ℕ) (en : n ≡ encoded_bits f) where
+module _ (f : BlockFormat) (block : List ℕ) (n : ℕ) (en : n ≡ encoded_bits f) where
   within : n ≤ 260
   within = omega (arith, (format_sizes f).2)
 
   module _ (cells : List ℕ) (kept : length cells ≡ length (take {A = ℕ} n (replicate 260 0))) (read : cells ≡ deinterleaved f 0 block) where
     part : take n (cells ++ drop {A = ℕ} n (replicate 260 0)) ≡ cells
     part = became n (replicate 260 0) within cells kept
-
-    pub asks_search : (word : List ℕ) → length word ≡ encoded_bits f / 2
-        → (5 ≤ length word) × (length word ≤ 130) × (length (take n (cells ++ drop {A = ℕ} n (replicate 260 0))) ≡ length word * 2)
-        × (all_binary (take n (cells ++ drop {A = ℕ} n (replicate 260 0))) ≡ true)
-    asks_search word h = (
-      omega (arith, half_bits f),
-      omega (arith, half_bits f, (format_sizes f).1),
-      omega (arith, ap length part, became_length n (replicate 260 0) within cells kept, half_bits f, (format_sizes f).0),
-      ap all_binary part ∙ ap all_binary read ∙ binary_deinterleaved f block binary,
-    )
 
     pub found : (word₀ : List ℕ) {word : List ℕ} {r : Outcome} → length word₀ ≡ encoded_bits f / 2
         → FoundFirst (Terminated (length word₀)) (weight (bits (take n (cells ++ drop {A = ℕ} n (replicate 260 0))))) word r → FoundWord f block word r.metric

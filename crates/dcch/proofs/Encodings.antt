@@ -1,16 +1,15 @@
--- What `encode` and `encode_cells` ask of their calls, with their scratch arrays lent in part, and what they answer. Assumes nothing.
+-- What `encode` and `encode_cells` answer, with their scratch arrays lent in part. Assumes nothing.
 use mathlib.Core.Path.{◌≡◌, refl, sym, ap, ◌∙◌}
-use mathlib.Core.Bool.{Bool, true, false}
+use mathlib.Core.Bool.{Bool, false}
 use mathlib.Core.List.{List, ◌++◌}
-use Prim.Native.Nat.{ℕ, ◌+◌, ◌*◌, ◌<◌, ◌≤◌}
+use Prim.Native.Nat.{ℕ, ◌+◌, ◌*◌, ◌≤◌}
 use native.Mathlib.Omega.{arith}
-use lib.ListN.{length, take, drop, replicate, length-append, length-map}
+use lib.ListN.{length, take, drop, replicate, length-append}
 use Rattle.std.specs.Prelude.{Ok}
-use Rattle.bits.specs.Bits.{bit, byte, bits, bytes, all_binary}
+use Rattle.bits.specs.Bits.{bits, bytes}
 use Rattle.bits.specs.Numbers.{unpacked}
 use Rattle.bits.proofs.Packed.{unpacked-length}
 use Rattle.bits.specs.Arguments.{Arguments}
-use Rattle.bits.proofs.Binary.{bits-bytes, binary_bytes}
 use Rattle.bits.proofs.LentPart.{became}
 use Rattle.coding.specs.Codes.{coded, dcch}
 use Rattle.coding.specs.Registers.{memory_high}
@@ -38,21 +37,14 @@ inputs-length information checksum =
     ∙ ap (λ (n : ℕ). length information + n) (length-append (unpacked 16 checksum) (replicate 5 false) ∙ ap (λ (n : ℕ). n + 5) (unpacked-length 16 checksum))
 
 -- ---- `encode_cells`: the inputs are coded
-module _ (information : List ℕ) (checksum : ℕ) {inputs : List ℕ} (filled : inputs ≡ bytes (inputs_of (bits information) checksum)) where
-  pub asks_encode : (cells : List ℕ) → length cells ≡ (length information + 21) * 2
-      → (0 < 32) × (length cells ≡ length inputs * 2) × (all_binary inputs ≡ true)
-  asks_encode cells size =
-      let l : length inputs ≡ length information + 21 =
-      ap length filled ∙ length-map (inputs_of (bits information) checksum) byte ∙ inputs-length (bits information) checksum ∙ ap (λ (n : ℕ). n + 21) (length-map information bit) in
-      (omega arith, omega arith, ap all_binary filled ∙ binary_bytes (inputs_of (bits information) checksum))
-
+module _ (information : List ℕ) (checksum : ℕ) (inputs : List ℕ) (filled : bits inputs ≡ inputs_of (bits information) checksum) where
   pub cells_coded : (dvcc : ℕ) (mode : CrcMode) {cells : List ℕ} {next : ℕ} → checksum ≡ sent_checksum (bits information) dvcc mode
       → Encoded 0 inputs cells next → cells ≡ bytes (cells_of (bits information) dvcc mode)
   unfolding cells_of
   cells_coded dvcc mode told e =
       e.bits
       ∙ ap (λ (u : List Bool). bytes (coded dcch (memory_high 0) u))
-      (ap bits filled ∙ bits-bytes (inputs_of (bits information) checksum) ∙ ap (inputs_of (bits information)) told)
+      (filled ∙ ap (inputs_of (bits information)) told)
 
 -- ---- `encode`
 module _ (f : BlockFormat) (information : List ℕ) (dvcc : ℕ) (mode : CrcMode) (block₀ : List ℕ) {l : Arguments} (told : l ≡ encode_arguments f information (length block₀)) (passed : l ≡ Ok tt)

@@ -1,16 +1,16 @@
 -- The inputs of a block, written into 130 zeros: the information, then its checksum. Assumes nothing.
 use mathlib.Core.Path.{◌≡◌, sym, ap, ap₂, ◌∙◌}
-use mathlib.Core.Bool.{true, false}
+use mathlib.Core.Bool.{Bool, false}
 use mathlib.Core.List.{List, ◌++◌, append_assoc}
 use Prim.Native.Nat.{ℕ, ◌+◌, ◌-◌, ◌≤◌}
 use native.Mathlib.Omega.{arith}
-use Rattle.bits.specs.Bits.{byte, bits, bytes, all_binary}
+use Rattle.bits.specs.Bits.{byte, bits, bytes}
 use Rattle.dcch.specs.Blocks.{inputs_of}
 use lib.ListN.{length, take, drop, replicate, length-append, length-drop, length-map, length-replicate, replicate-append-replicate}
 use lib.Seq.{length-take-le, take_at, drop_at, drop-drop}
 use borrow.Rule.Slice.PartMut.{put_mid}
 use Rattle.bits.specs.Numbers.{unpacked}
-use Rattle.bits.proofs.Binary.{bytes-append, bytes_bits}
+use Rattle.bits.proofs.Binary.{bits-append, bits-bytes}
 use Rattle.bits.proofs.Packed.{unpacked-length}
 
 -- zeros past the first ones are zeros
@@ -18,7 +18,7 @@ drop_zeros : (k n : ℕ) → drop {A = ℕ} k (replicate (k + n) 0) ≡ replicat
 drop_zeros k n =
     ap (λ (l : List ℕ). drop k l) (sym (replicate-append-replicate {A = ℕ} k n 0)) ∙ drop_at {A = ℕ} (replicate k 0) (replicate n 0) k (length-replicate {A = ℕ} k 0)
 
-module _ (information : List ℕ) (binary : all_binary information ≡ true) (small : length information ≤ 109) (checksum : ℕ) where
+module _ (information : List ℕ) (small : length information ≤ 109) (checksum : ℕ) where
   abbrev n : ℕ
   n = length information
 
@@ -47,7 +47,7 @@ module _ (information : List ℕ) (binary : all_binary information ≡ true) (sm
     part_length : length part ≡ 16
     part_length = ap length part_is ∙ length-map (unpacked 16 checksum) byte ∙ unpacked-length 16 checksum
 
-    pub filled : take (n + 21) (put_mid n (n + 16 - n) (copied ++ drop n (replicate {A = ℕ} 130 0)) part) ≡ bytes (inputs_of (bits information) checksum)
+    pub filled : bits (take (n + 21) (put_mid n (n + 16 - n) (copied ++ drop n (replicate {A = ℕ} 130 0)) part)) ≡ inputs_of (bits information) checksum
     unfolding inputs_of
     filled =
         let front : take n (copied ++ drop n (replicate {A = ℕ} 130 0)) ≡ information = take_at copied (drop n (replicate {A = ℕ} 130 0)) n (ap length whole) ∙ whole in
@@ -57,6 +57,7 @@ module _ (information : List ℕ) (binary : all_binary information ≡ true) (sm
         ∙ sym (append_assoc information (part ++ replicate 5 0) (replicate (109 - n) 0)) in
         let size : length (information ++ (part ++ replicate 5 0)) ≡ n + 21 =
         length-append information (part ++ replicate 5 0) ∙ omega (arith, length-append part (replicate 5 0), part_length) in
-        ap (take (n + 21)) all ∙ take_at (information ++ (part ++ replicate 5 0)) (replicate (109 - n) 0) (n + 21) size
-        ∙ ap₂ (λ (a b : List ℕ). a ++ (b ++ replicate 5 0)) (sym (bytes_bits information binary)) part_is
-        ∙ sym (bytes-append (bits information) (unpacked 16 checksum ++ replicate 5 false) ∙ ap (λ (l : List ℕ). bytes (bits information) ++ l) (bytes-append (unpacked 16 checksum) (replicate 5 false)))
+        ap bits (ap (take (n + 21)) all ∙ take_at (information ++ (part ++ replicate 5 0)) (replicate (109 - n) 0) (n + 21) size)
+        ∙ bits-append information (part ++ replicate 5 0)
+        ∙ ap (λ (l : List Bool). bits information ++ l)
+        (bits-append part (replicate 5 0) ∙ ap (λ (l : List Bool). l ++ replicate 5 false) (ap bits part_is ∙ bits-bytes (unpacked 16 checksum)))

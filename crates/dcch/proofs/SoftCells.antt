@@ -44,11 +44,6 @@ module _ (values : List Float) (information : List ℕ) (small : length informat
     binary_part : all_binary (take (length information + 21) (word ++ drop {A = ℕ} (length information + 21) (replicate 130 0))) ≡ true
     binary_part = ap all_binary (part ∙ g.written) ∙ binary_bytes (reverse g.word)
 
-    pub asks_signs : (all_binary (take (length information + 21) (word ++ drop {A = ℕ} (length information + 21) (replicate 130 0))) ≡ true)
-        × (length (take (length information + 21) (word ++ drop {A = ℕ} (length information + 21) (replicate 130 0))) ≤ 130)
-        × (length values ≡ length (take (length information + 21) (word ++ drop {A = ℕ} (length information + 21) (replicate 130 0))) * 2)
-    asks_signs = (binary_part, omega (arith, size), omega (arith, size))
-
     pub asks_finish : (all_binary (take (length information + 21) (word ++ drop {A = ℕ} (length information + 21) (replicate 130 0))) ≡ true)
         × (length (take (length information + 21) (word ++ drop {A = ℕ} (length information + 21) (replicate 130 0))) ≡ length information + 21) × (length information ≤ 109)
     asks_finish = (binary_part, size, small)

@@ -1,7 +1,7 @@
 // DCCH blocks: encoding, and decoding of received bits (IS-136.1-A 4.4.3 and 5.2.6). Ported from 136-bts, dcch.rs, and changed (see NOTICE). The contracts cite specs/.
 // A format is known at run time only, so the buffers have the longest block's size and are lent in part: there is no heap.
-ghost use Rattle.std.specs.Prelude.{true, ◌≡◌, ◌+◌, ◌*◌, ◌/◌, ◌≤◌, length};
-ghost use Rattle.bits.specs.Bits.{all_binary, bits, bytes};
+ghost use Rattle.std.specs.Prelude.{◌≡◌, ◌+◌, ◌*◌, ◌/◌, ◌≤◌, length};
+ghost use Rattle.bits.specs.Bits.{bits, bytes};
 ghost use Rattle.dcch_interleaver.specs.Formats.{encoded_bits};
 ghost use Rattle.dcch.specs.Blocks.{Decoding, Encoding, FoundWord, cells_of};
 
@@ -14,7 +14,7 @@ use dcch_interleaver::{BlockFormat, deinterleave, interleave};
 
 // Writes the coded bits of a block, before they are interleaved: of the information, its checksum, and the tail of zeros.
 fn encode_cells(information: &[u8], crc: Crc, cells: &mut [u8])
-    requires { (all_binary information.now ≡ true) × (length information.now ≤ 109) × (length cells.old ≡ (length information.now + 21) * 2) }
+    requires { (length information.now ≤ 109) × (length cells.old ≡ (length information.now + 21) * 2) }
     ensures { cells.new ≡ bytes (cells_of (bits information.now) crc.dvcc crc.mode) }
 {
     let n = information.len();
@@ -45,7 +45,7 @@ pub fn encode(
 
 // Writes the first of the words nearest to a block, and gives its number of disagreements.
 fn nearest_word(format: BlockFormat, block: &[u8], word: &mut [u8]) -> u16
-    requires { (all_binary block.now ≡ true) × (length block.now ≡ encoded_bits format) × (length word.old ≡ encoded_bits format / 2) }
+    requires { (length block.now ≡ encoded_bits format) × (length word.old ≡ encoded_bits format / 2) }
     ensures { FoundWord format block.now word.new result }
 {
     let bits = format.encoded_bits();

@@ -16,8 +16,8 @@ pub enum CrcMode {
     Addressed,
 }
 
-// How a block is protected: the colour code of its checksum, and how that is sent.
-#[derive(Clone, Copy)]
+// How a block is protected: the colour code of its checksum, and how that is sent. (Inside the crate alone: the calls of users take the two apart, as C does.)
+#[derive(Clone, Copy, Debug, PartialEq, Eq)]
 pub struct Crc {
     pub dvcc: u8,
     pub mode: CrcMode,
@@ -27,7 +27,6 @@ impl Crc {
     // The checksum of information, as it is sent.
     #[tactic(auto, unfolding(crate::specs::Crc::sent_checksum))]
     pub fn sent_checksum(self, information: &[u8]) -> u16
-        requires { all_binary information.now ≡ true }
         ensures { result ≡ sent_checksum (bits information.now) self.dvcc self.mode }
     {
         let register = checksum_under(information, self.dvcc);
@@ -38,6 +37,7 @@ impl Crc {
     }
 
     // The information of a word's inputs, where the checksum after it is right.
+    // That the inputs are bits is asked, since they are copied as they are; so is the length, as a format is known at run time only.
     pub fn finish_decode(
         self,
         inputs: &[u8],

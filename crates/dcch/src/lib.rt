@@ -1,5 +1,4 @@
 // DCCH blocks (IS-136.1-A 4.4.3 and 5.2.6). Ported from 136-bts, dcch.rs (see NOTICE). The contracts cite specs/.
-// That bytes are bits stays a clause of each function: a type for it would wrap each buffer anew after each call that fills it, and be no plainer.
 #![tactic(auto)]
 
 mod block;

@@ -1,7 +1,7 @@
 // Decoding of a block of reliabilities: positive for a zero, negative for a one, the size for how sure.
 // Ported from 136-bts, dcch.rs, and changed (see NOTICE).
 ghost use Rattle.std.specs.Prelude.{true, ◌≡◌, ◌+◌, ◌*◌, ◌≤◌, length};
-ghost use Rattle.bits.specs.Bits.{all_binary, bits};
+ghost use Rattle.bits.specs.Bits.{bits};
 ghost use Rattle.soft.specs.Reliability.{all_finite};
 ghost use Rattle.dcch.specs.SoftBlocks.{CellsSearched, SoftDecoding, signs_of};
 
@@ -15,7 +15,7 @@ use soft::{all_finite, sign_count, viterbi_soft};
 
 // In how many places the coded bits of a word differ from the signs of the reliabilities.
 fn count_signs(word: &[u8], values: &[f64]) -> u16
-    requires { (all_binary word.now ≡ true) × (length word.now ≤ 130) × (length values.now ≡ length word.now * 2) }
+    requires { (length word.now ≤ 130) × (length values.now ≡ length word.now * 2) }
     ensures { result ≡ signs_of (bits word.now) values.now }
 {
     let mut coded = [0u8; 260];

@@ -1,5 +1,5 @@
 -- The coded bits of a word, in two runs from the memory of its first five bits. Assumes nothing.
-use mathlib.Core.Path.{◌≡◌, sym, ap, ap₂, subst, ◌∙◌}
+use mathlib.Core.Path.{◌≡◌, refl, sym, ap, ap₂, subst, ◌∙◌}
 use mathlib.Core.Bool.{Bool, true, false}
 use mathlib.Core.List.{List, [], ◌∷◌, ◌++◌, reverse}
 use Prim.Native.Nat.{ℕ, ◌*◌, ◌%◌, ◌≤◌, ◌<◌}
@@ -9,8 +9,8 @@ use lib.Dec.{T, ltb, ltb→lt}
 use Rattle.std.specs.List.{fold}
 use lib.ListN.{length, take, drop, length-drop}
 use lib.Seq.{take_all}
-use Rattle.bits.specs.Bits.{bit, bits, bytes, byte, all_binary}
-use Rattle.bits.proofs.Binary.{byte-bit, bits-take, bits-drop, binary_head, binary_tail, binary_drop}
+use Rattle.bits.specs.Bits.{bit, bits, bytes, byte}
+use Rattle.bits.proofs.Binary.{byte-bit_any, bits-take, bits-drop}
 use Rattle.bits.proofs.Tested.{both, both_left, both_right, same_bits, same_bits_eq}
 use Rattle.coding.specs.Codes.{coded, facch}
 use Rattle.coding.specs.Laws.{facch_laws}
@@ -55,31 +55,23 @@ started a b c d e =
       same_bits_eq (memory_high m) (e ∷ d ∷ c ∷ b ∷ a ∷ []) (both_right (ltb m 32) (same_bits (memory_high m) (e ∷ d ∷ c ∷ b ∷ a ∷ [])) t),
     )
 
-pub starts : (word : List ℕ) → 5 ≤ length word → all_binary word ≡ true → {memory : ℕ} → memory ≡ fold above 0 (reverse (take 5 word))
+pub starts : (word : List ℕ) → 5 ≤ length word → {memory : ℕ} → memory ≡ fold (λ (memory bit : ℕ). above memory (bit % 2)) 0 (reverse (take 5 word))
     → (memory < 32) × (memory_high memory ≡ reverse (take 5 (bits word)))
-starts (a ∷ b ∷ c ∷ d ∷ e ∷ rest) h binary {memory} told =
-    let tb = binary_tail a _ binary in
-    let tc = binary_tail b _ tb in
-    let td = binary_tail c _ tc in
-    let te = binary_tail d _ td in
-    let same : memory_of (byte (bit a)) (byte (bit b)) (byte (bit c)) (byte (bit d)) (byte (bit e)) ≡ memory_of a b c d e =
-    rw (byte-bit a (binary_head a _ binary), byte-bit b (binary_head b _ tb), byte-bit c (binary_head c _ tc), byte-bit d (binary_head d _ td), byte-bit e (binary_head e _ te)) in
+starts (a ∷ b ∷ c ∷ d ∷ e ∷ rest) h {memory} told =
+    let same : memory_of (byte (bit a)) (byte (bit b)) (byte (bit c)) (byte (bit d)) (byte (bit e)) ≡ memory_of (a % 2) (b % 2) (c % 2) (d % 2) (e % 2) =
+    rw (byte-bit_any a, byte-bit_any b, byte-bit_any c, byte-bit_any d, byte-bit_any e) refl in
     let s = started (bit a) (bit b) (bit c) (bit d) (bit e) in
     (subst (λ (m : ℕ). m < 32) (same ∙ sym told) s.0, subst (λ (m : ℕ). memory_high m ≡ bit e ∷ bit d ∷ bit c ∷ bit b ∷ bit a ∷ []) (same ∙ sym told) s.1)
-starts [] h binary told = absurd (omega arith)
-starts (a ∷ []) h binary told = absurd (omega arith)
-starts (a ∷ b ∷ []) h binary told = absurd (omega arith)
-starts (a ∷ b ∷ c ∷ []) h binary told = absurd (omega arith)
-starts (a ∷ b ∷ c ∷ d ∷ []) h binary told = absurd (omega arith)
+starts [] h told = absurd (omega arith)
+starts (a ∷ []) h told = absurd (omega arith)
+starts (a ∷ b ∷ []) h told = absurd (omega arith)
+starts (a ∷ b ∷ c ∷ []) h told = absurd (omega arith)
+starts (a ∷ b ∷ c ∷ d ∷ []) h told = absurd (omega arith)
 
 -- ---- `encode_word`: bits 5 to 64 into the first 240 places, bits 0 to 4 into the rest
-module _ (word : List ℕ) (size : length word ≡ 65) (binary : all_binary word ≡ true) where
+module _ (word : List ℕ) (size : length word ≡ 65) where
   rest_is : take 60 (drop 5 word) ≡ drop 5 word
   rest_is = take_all 60 (drop 5 word) (omega (arith, length-drop 5 word))
-
-  pub asks_rest : {memory : ℕ} (part : List ℕ) → memory < 32 → length part ≡ 240
-      → (memory < 32) × (length part ≡ length (take 60 (drop 5 word)) * 4) × (all_binary (take 60 (drop 5 word)) ≡ true)
-  asks_rest part h l = (h, l ∙ sym (ap (λ (u : List ℕ). length u * 4) rest_is ∙ omega (arith, length-drop 5 word)), ap all_binary rest_is ∙ binary_drop 5 word binary)
 
   pub bitten : {start memory end : ℕ} {out out' : List ℕ} → memory_high start ≡ reverse (take 5 (bits word))
       → Ran facch memory_high start (bits (take 60 (drop 5 word))) memory out → Ran facch memory_high memory (bits (take 5 word)) end out'

@@ -4,12 +4,12 @@ use mathlib.Core.Bool.{Bool, true, false, false≢true}
 use mathlib.Core.List.{List}
 use Prim.Native.Nat.{ℕ, ◌<◌, ◌≤◌}
 use native.Mathlib.Omega.{arith}
-use Rattle.bits.specs.Bits.{bits, all_binary}
+use Rattle.bits.specs.Bits.{bits}
 use Rattle.bits.specs.Observed.{observed_count}
 use Rattle.std.specs.Prelude.{Result, Err}
 use Rattle.bits.specs.declared.Refusal.{Refusal}
 use Rattle.bits.specs.declared.Refusal.TheVariants as refusal
-use Rattle.bits.proofs.Binary.{bits-bytes, binary_bytes}
+use Rattle.bits.proofs.Binary.{bits-bytes}
 use Rattle.trellis.specs.declared.Outcome.{Outcome}
 use Rattle.trellis.proofs.Decided.{decided_alone, decided_shared}
 use Rattle.facch.specs.declared.FacchWord.{FacchWord}
@@ -22,9 +22,6 @@ module _ (received : List ℕ) (dvcc observed : ℕ) (eo : observed ≡ observed
   scarce_end h = sym (too_few received dvcc (omega arith))
 
   module _ (many : 65 ≤ observed) {word : List ℕ} {r : Outcome} (s : Searched received word r) where
-    pub binary_word : all_binary word ≡ true
-    binary_word = ap all_binary s.written ∙ binary_bytes s.bits
-
     pub tied_end : r.tie ≡ true → Err refusal.Ambiguous ≡ decode_of received dvcc
     tied_end t = sym (decided_shared (facch-decided received dvcc (omega arith)) (s.tied t))
 

@@ -3,7 +3,7 @@
 use mathlib.Core.Path.{◌≡◌, sym, ap, ap₂, ◌∙◌}
 use mathlib.Core.Bool.{Bool}
 use mathlib.Core.List.{List, ◌++◌, reverse, reverse-append, reverse-reverse}
-use Prim.Native.Nat.{ℕ, ◌+◌, ◌-◌}
+use Prim.Native.Nat.{ℕ, ◌+◌}
 use native.Mathlib.Omega.{arith}
 use lib.ListN.{length, take, drop, length-append, length-drop, length-reverse, length-map, take-append-drop}
 use lib.Seq.{length-take-le, take_at, drop_at}
@@ -55,7 +55,7 @@ module _ (u : List Bool) (size : length u ≡ 65) where
   unfolding weight tail_weight
   turned_weight received = ap (λ (l : List Bool). tally erased_differ l received) turned_coded
 
-  -- the word that `rotate` writes of the inputs
+  -- the word that `nearest_word` writes of the inputs
   turned_bytes : (inputs : List ℕ) → inputs ≡ bytes (reverse u) → drop 60 inputs ++ take 60 inputs ≡ bytes (turned u)
   turned_bytes inputs e =
       let a : List Bool = reverse (take 5 u) in
@@ -107,15 +107,16 @@ module _ (received : List ℕ) where
         distinct = λ e. a.distinct (one_turned a.one a.other a.one_nearest.word a.other_nearest.word e);
       }
 
-  pub searched : {inputs word : List ℕ} {r : Outcome} → Found (OfLength 65) (tail_weight received) inputs r
-      → word ≡ drop (length inputs - 5) inputs ++ take (length inputs - 5) inputs → Searched received word r
+  pub searched : {inputs word : List ℕ} {r : Outcome} → Found (OfLength 65) (tail_weight received) inputs r → word ≡ drop 60 inputs ++ take 60 inputs → Searched received word r
   searched {inputs} f e =
-      let n : length inputs - 5 ≡ 60 = omega (arith, ap length f.written, length-map (reverse f.word) byte, length-reverse f.word, f.nearest.word) in
       record {
         bits = turned f.word;
-        written = e ∙ ap (λ (k : ℕ). drop k inputs ++ take k inputs) n ∙ turned_bytes f.word f.nearest.word inputs f.written;
+        written = e ∙ turned_bytes f.word f.nearest.word inputs f.written;
         nearest = nearest_to f.word f.nearest;
         metric = f.metric ∙ sym (turned_weight f.word f.nearest.word received);
         tied = λ t. ambiguous_to (f.tied t);
         alone = λ a. f.alone (ambiguous_from a);
       }
+
+  pub inputs_length : {inputs : List ℕ} {r : Outcome} → Found (OfLength 65) (tail_weight received) inputs r → length inputs ≡ 65
+  inputs_length f = ap length f.written ∙ length-map (reverse f.word) byte ∙ length-reverse f.word ∙ f.nearest.word

@@ -1,8 +1,7 @@
 // Decoding of a word, some of its bits unobserved (IS-54-B 2.7.3.1.1).
 // Ported from 136-bts, facch.rs, and changed (see NOTICE).
-ghost use Rattle.std.specs.Prelude.{true, ◌≡◌, length};
-ghost use Rattle.bits.specs.Bits.{all_binary, bits};
-ghost use Rattle.bits.specs.Observed.{all_erasable};
+ghost use Rattle.std.specs.Prelude.{◌≡◌, length};
+ghost use Rattle.bits.specs.Bits.{bits};
 ghost use Rattle.facch.specs.Decoding.{decode_arguments, decode_of, decoding, erased_arguments, finished};
 
 use crate::FacchWord;
@@ -12,16 +11,15 @@ use bits::arguments::exact_bits;
 use bits::observed::{count_observed, exact_erasable};
 
 // The content of a word, where its checksum is right.
-#[tactic(auto, using(words::proofs::Parts::flag), unfolding(crate::specs::Decoding::content_of, crate::specs::Decoding::finished))]
+#[tactic(auto, using(bits::proofs::Binary::bit_read), unfolding(crate::specs::Decoding::content_of, crate::specs::Decoding::finished))]
 fn finish(word: &[u8; 65], corrected: u16, observed: u16, dvcc: u8) -> Result<FacchWord, Refusal>
-    requires { all_binary word.now ≡ true }
     ensures { result ≡ finished (bits word.now) corrected observed dvcc }
 {
     if !words::valid(1, word, dvcc) {
         return Err(Refusal::Crc);
     }
     Ok(FacchWord {
-        continuation: word[0] == 1,
+        continuation: word[0] % 2 == 1,
         message: words::message(1, word),
         corrected,
         observed,
@@ -30,7 +28,7 @@ fn finish(word: &[u8; 65], corrected: u16, observed: u16, dvcc: u8) -> Result<Fa
 
 // Searches bytes 0, 1 and 2, where enough was observed.
 fn answer(coded: &[u8], dvcc: u8) -> Result<FacchWord, Refusal>
-    requires { (length coded.now ≡ 260) × (all_erasable coded.now ≡ true) }
+    requires { length coded.now ≡ 260 }
     ensures { result ≡ decode_of coded.now dvcc }
 {
     let observed = count_observed(coded);
@@ -54,7 +52,6 @@ pub fn decode_erased(coded: &[u8], dvcc: u8) -> Result<FacchWord, Refusal>
 }
 
 // The same of bits that are all observed.
-#[tactic(auto, using(bits::proofs::Erased::binary_erasable))]
 pub fn decode(coded: &[u8], dvcc: u8) -> Result<FacchWord, Refusal>
     ensures { result ≡ decoding (decode_arguments coded.now) coded.now dvcc }
 {

@@ -1,7 +1,7 @@
 // Encoding of a word (IS-54-B 2.7.3.1.1).
 // Ported from 136-bts, facch.rs, and changed (see NOTICE).
-ghost use Rattle.std.specs.Prelude.{true, reverse, ◌≡◌, ◌<◌, length, take};
-ghost use Rattle.bits.specs.Bits.{all_binary, bits, bytes};
+ghost use Rattle.std.specs.Prelude.{reverse, ◌≡◌, ◌<◌, length, take};
+ghost use Rattle.bits.specs.Bits.{bits, bytes};
 ghost use Rattle.coding.specs.Registers.{memory_high};
 ghost use Rattle.facch.specs.Words.{Encoding, tail_biting};
 
@@ -13,18 +13,17 @@ use words::{MESSAGES, complete};
 
 // The memory that a word starts from: its first five bits, the first lowest.
 fn start_memory(word: &[u8; 65]) -> u8
-    requires { all_binary word.now ≡ true }
     ensures { (result < 32) × (memory_high result ≡ reverse (take 5 (bits word.now))) }
 {
     word[..5]
         .iter()
         .rev()
-        .fold(0, |memory, bit| (memory << 1) | *bit)
+        .fold(0, |memory, bit| (memory << 1) | (*bit % 2))
 }
 
 // Writes the coded bits of a word. The memory after them is the one before them, so there is no tail.
 fn encode_word(word: &[u8; 65], coded: &mut [u8])
-    requires { (all_binary word.now ≡ true) × (length coded.old ≡ 260) }
+    requires { length coded.old ≡ 260 }
     ensures { coded.new ≡ bytes (tail_biting (bits word.now)) }
 {
     let start = start_memory(word);

@@ -19,7 +19,7 @@ use Rattle.interleaving.proofs.RoundTrip.{between_two}
 use Rattle.bits.proofs.Refusing.{passed_two, two_passed}
 use Rattle.facch_interleaver.specs.Wire.{table, place_of, place_at, wire_of, interleaved, deinterleaved, observed, Interleaving, Deinterleaving}
 use Rattle.bits.specs.Observed.{observed_one, observed_count}
-use Rattle.facch_interleaver.proofs.Table.{wire_below, place_of_wire}
+use Rattle.facch_interleaver.specs.Laws.{order_laws}
 use Rattle.facch_interleaver.proofs.Interleaved.{interleaved-length, deinterleaved-length, interleaved_at, deinterleaved_at, binary_interleaved}
 use Rattle.bits.proofs.Erased.{not_observed, is_observed}
 
@@ -27,18 +27,18 @@ module _ {A : Type 0} (d : A) where
   -- what a slot carries of a word: its even rows of the one before it, its odd rows of its own
   module _ (word : List A) (place : ℕ) (h : place < 260) where
     carried : (u : List A) → u ≡ word → get_or u (place_at (wire_of place)) d ≡ get_or word place d
-    carried u e = ap₂ (λ (l : List A) (p : ℕ). get_or l p d) e (place_of_wire place h)
+    carried u e = ap₂ (λ (l : List A) (p : ℕ). get_or l p d) e (order_laws.place_of_wire place h)
 
     pub even_row : (next : List A) → eqb (wire_of place / 10 % 2) 0 ≡ true → get_or (interleaved d word next) (wire_of place) d ≡ get_or word place d
-    even_row next e = interleaved_at d word next (wire_of place) (wire_below place h) ∙ carried _ (ap (λ (b : Bool). cond b word next) e)
+    even_row next e = interleaved_at d word next (wire_of place) (order_laws.wire_below place h) ∙ carried _ (ap (λ (b : Bool). cond b word next) e)
 
     pub odd_row : (previous : List A) → eqb (wire_of place / 10 % 2) 0 ≡ false → get_or (interleaved d previous word) (wire_of place) d ≡ get_or word place d
-    odd_row previous e = interleaved_at d previous word (wire_of place) (wire_below place h) ∙ carried _ (ap (λ (b : Bool). cond b previous word) e)
+    odd_row previous e = interleaved_at d previous word (wire_of place) (order_laws.wire_below place h) ∙ carried _ (ap (λ (b : Bool). cond b previous word) e)
 
   -- ---- two slots
   pub facch_slots_round_trip : (previous word next : List A) → length word ≡ 260 → deinterleaved d (interleaved d previous word) (interleaved d word next) ≡ word
   unfolding interleaved deinterleaved
-  facch_slots_round_trip previous word next size = between_two d place_at wire_of wire_below place_of_wire previous word next size
+  facch_slots_round_trip previous word next size = between_two d place_at wire_of order_laws.wire_below order_laws.place_of_wire previous word next size
 
 -- the same of the calls
 pub slotted : (previous current : List ℕ) (r : Arguments) {slot₀ slot : List ℕ} → two_arguments previous current (length slot₀) ≡ Ok tt → Interleaving previous current slot₀ slot r
@@ -75,7 +75,7 @@ observed-length End slot = deinterleaved-length 0 (replicate 260 2) slot
 
 module _ (place : ℕ) (h : place < 260) where
   unread : get_or {A = ℕ} (replicate 260 2) (wire_of place) 0 ≡ 2
-  unread = get_or-replicate {A = ℕ} 260 (wire_of place) 2 0 (wire_below place h)
+  unread = get_or-replicate {A = ℕ} 260 (wire_of place) 2 0 (order_laws.wire_below place h)
 
   observed_at_lem : (half : WordHalf) (slot : List ℕ) → get_or (observed half slot) place 0 ≡ cond (carries half place) (get_or slot (wire_of place) 0) 2
   observed_at_lem Start slot = deinterleaved_at 0 slot (replicate 260 2) place h ∙ go (eqb (wire_of place / 10 % 2) 0)
@@ -140,4 +140,4 @@ half_count half l f size low at =
 pub half_observed : (slot : List ℕ) → all_binary slot ≡ true → length slot ≡ 260 → (half : WordHalf) → observed_count (observed half slot) ≡ 130
 half_observed slot binary size half =
     half_count half (observed half slot) (λ place. get_or slot (wire_of place) 0) (observed-length half slot)
-    (λ place h. binary_at slot binary (wire_of place) (omega (arith, wire_below place h))) (λ place h. observed_at_lem place h half slot)
+    (λ place h. binary_at slot binary (wire_of place) (omega (arith, order_laws.wire_below place h))) (λ place h. observed_at_lem place h half slot)

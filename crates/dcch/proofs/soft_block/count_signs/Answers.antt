@@ -4,5 +4,5 @@ use Rattle.dcch.proofs.soft_block.count_signs.Goals as goal
 
 pub returns : goal.returns
 returns c =
-    signs_counted c.args.word.now c.args.values.now c.requires.1 c.requires.2 _
+    signs_counted c.args.word.now c.args.values.now c.requires.0 c.requires.1 _
     c.convolutional_encode.auto.coded c.convolutional_encode.ensures c.sign_count.ensures

@@ -1,11 +1,6 @@
 -- `dcch::soft_block::search_cells` meets its contract: the search's word, its count, and the end of the decoding. Assumes nothing.
-use Rattle.dcch.proofs.SoftCells.{asks_signs, asks_finish, soft_end}
+use Rattle.dcch.proofs.SoftCells.{asks_finish, soft_end}
 use Rattle.dcch.proofs.soft_block.search_cells.Goals as goal
-
-pub count_signs-corrected-requires : goal.count_signs-corrected-requires
-count_signs-corrected-requires c =
-    asks_signs c.args.values.now c.args.information.now c.requires.0 c.requires.1 c.viterbi_soft.new.word
-    c.viterbi_soft.auto.word c.viterbi_soft.ensures
 
 pub finish_decode-requires : goal.finish_decode-requires
 finish_decode-requires c =

@@ -1,5 +1,5 @@
 -- `facch::decoding::answer` meets its contract: too few observed bits, a tie, or the end of the decoding of the nearest word. Assumes nothing.
-use Rattle.facch.proofs.Settling.{scarce_end, tied_end, binary_word, alone_end}
+use Rattle.facch.proofs.Settling.{scarce_end, tied_end, alone_end}
 use Rattle.facch.proofs.decoding.answer.Goals as goal
 
 pub returns-then-observed-lt65 : goal.returns-then-observed-lt65
@@ -8,10 +8,6 @@ returns-then-observed-lt65 c = scarce_end c.args.coded.now c.args.dvcc _ c.count
 pub returns-then-found : goal.returns-then-found
 returns-then-found c =
     tied_end c.args.coded.now c.args.dvcc _ c.count_observed-observed.ensures c.if-observed-lt65.false c.nearest_word-found.ensures c.if-found.true
-
-pub finish-requires : goal.finish-requires
-finish-requires c =
-    binary_word c.args.coded.now c.args.dvcc _ c.count_observed-observed.ensures c.if-observed-lt65.false c.nearest_word-found.ensures
 
 pub returns : goal.returns
 returns c =

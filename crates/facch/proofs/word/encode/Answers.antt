@@ -1,25 +1,18 @@
 -- `facch::word::encode` meets its contract: the coded bits of the word. Assumes nothing.
 use mathlib.Core.List.{[], ◌∷◌}
-use mathlib.Core.Path.{ap, ap₂, sym, ◌∙◌}
+use mathlib.Core.Path.{ap, ap₂, ◌∙◌}
 use Prim.Native.Nat.{ℕ}
 use Rattle.bits.specs.Arguments.{first_refusal}
 use Rattle.bits.specs.Bits.{all_binary}
 use Rattle.bits.proofs.Binary.{binary_bytes}
-use Rattle.bits.proofs.Refusing.{passed_exact}
 use Rattle.bits.proofs.Writing.{done_end}
 use Rattle.words.proofs.Made.{flag_binary}
-use Rattle.facch.proofs.WordBits.{binary_word, word-coded}
+use Rattle.facch.proofs.WordBits.{word-coded}
 use borrow.Author.Rules.{rules}
 use Rattle.facch.proofs.word.encode.Goals as goal
 
 pub complete-requires : goal.complete-requires
 complete-requires c = (search rules, ap (λ (flag : ℕ). all_binary (flag ∷ [])) c.from.ensures ∙ flag_binary c.args.continuation _ (binary_bytes []))
-
-pub encode_word-requires : goal.encode_word-requires
-encode_word-requires c = (
-  binary_word c.args.continuation c.args.message c.args.dvcc c.from.ensures c.complete.ensures,
-  sym (passed_exact 260 _ (sym c.exact.ensures ∙ c.in_ok-exact.was)),
-)
 
 pub returns : goal.returns
 returns c =

@@ -12,5 +12,5 @@ use Rattle.facch.proofs.word.start_memory.Goals as goal
 
 pub returns : goal.returns
 returns c =
-    let folded : c.fold.result ≡ fold (λ (memory bit : ℕ). bit_or (memory * 2 % 256) bit) 0 (reverse (take 5 c.args.word.now)) = search rules in
-    starts c.args.word.now (omega arith) c.requires folded
+    let folded : c.fold.result ≡ fold (λ (memory bit : ℕ). bit_or (memory * 2 % 256) (bit % 2)) 0 (reverse (take 5 c.args.word.now)) = search rules in
+    starts c.args.word.now (omega arith) folded

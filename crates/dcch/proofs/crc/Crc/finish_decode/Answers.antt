@@ -1,10 +1,6 @@
 -- `dcch::crc::Crc::finish_decode` meets its contract: the checksum after the information decides. Assumes nothing.
-use Rattle.bits.proofs.Binary.{binary_take}
 use Rattle.dcch.proofs.Finishing.{failed_end, taken_end}
 use Rattle.dcch.proofs.crc.Crc.finish_decode.Goals as goal
-
-pub sent_checksum-checksum-requires : goal.sent_checksum-checksum-requires
-sent_checksum-checksum-requires c = binary_take _ c.args.inputs.now c.requires.0
 
 pub returns-then-not-carries : goal.returns-then-not-carries
 returns-then-not-carries c =
