@@ -2,8 +2,8 @@
 // Ported from 136-bts, sacch.rs, and changed (see NOTICE).
 #![tactic(auto)]
 
-ghost use Rattle.std.specs.Prelude.{Err, cond, true, reverse, ◌≡◌, take};
-ghost use Rattle.bits.specs.Bits.{all_binary, bits};
+ghost use Rattle.std.specs.Prelude.{Err, cond, reverse, ◌≡◌, take};
+ghost use Rattle.bits.specs.Bits.{bits};
 ghost use Rattle.bits.specs.Numbers.{packed};
 ghost use Rattle.bits.specs.declared.Refusal.TheVariants.{Ambiguous};
 ghost use Rattle.sacch_decoder.specs.Decoding.{content_of, decode_arguments, decoding, finished};
@@ -24,9 +24,8 @@ pub struct SacchWord {
     pub ending: u8,
 }
 
-// The memory that a word leaves: its last five bits, the newest highest.
+// The memory that a word leaves: its last five bits, the newest highest. (A cast: the proof of a fold over a byte did not close.)
 fn ending(word: &[u8; 66]) -> u8
-    requires { all_binary word.now ≡ true }
     ensures { result ≡ packed (take 5 (reverse (bits word.now))) }
 {
     let newest = [word[65], word[64], word[63], word[62], word[61]];
@@ -34,13 +33,12 @@ fn ending(word: &[u8; 66]) -> u8
 }
 
 // The content of a word that has so many disagreements.
-#[tactic(auto, using(words::proofs::Parts::flag), unfolding(crate::specs::Decoding::content_of))]
+#[tactic(auto, using(bits::proofs::Binary::bit_read), unfolding(crate::specs::Decoding::content_of))]
 fn content(word: &[u8; 66], corrected: u16) -> SacchWord
-    requires { all_binary word.now ≡ true }
     ensures { result ≡ content_of (bits word.now) corrected }
 {
     SacchWord {
-        continuation: word[0] == 1,
+        continuation: word[0] % 2 == 1,
         message: words::message(2, word),
         corrected,
         ending: ending(word),
@@ -48,15 +46,14 @@ fn content(word: &[u8; 66], corrected: u16) -> SacchWord
 }
 
 // What the word that a search found gives: Ambiguous before Reserved before Crc.
-#[tactic(auto, using(crate::proofs::Settling::one_bit, crate::proofs::Settling::zero_bit), unfolding(crate::specs::Decoding::finished))]
+#[tactic(auto, using(bits::proofs::Binary::bit_read), unfolding(crate::specs::Decoding::finished))]
 fn finish(word: &[u8; 66], found: Outcome, dvcc: u8) -> Result<SacchWord, Refusal>
-    requires { all_binary word.now ≡ true }
     ensures { result ≡ cond found.tie (Err Ambiguous) (finished (bits word.now) found.metric dvcc) }
 {
     if found.tie {
         return Err(Refusal::Ambiguous);
     }
-    if word[1] == 1 {
+    if word[1] % 2 == 1 {
         return Err(Refusal::Reserved);
     }
     if !words::valid(2, word, dvcc) {

@@ -1,13 +1,13 @@
 -- The row of six inputs has twelve bits, and the memory after them holds the newest five. Assumes nothing.
 use mathlib.Core.Path.{◌≡◌, refl, sym, ◌∙◌, ap, subst}
-use mathlib.Core.Bool.{Bool, true}
+use mathlib.Core.Bool.{Bool}
 use mathlib.Core.List.{List, ◌∷◌, [], ◌++◌, reverse}
 use Prim.Native.Nat.{ℕ, ◌*◌, ◌/◌, ◌^◌, ◌<◌}
 use native.Mathlib.Nat.{div-one}
 use lib.ListN.{length, take, length-map}
-use Rattle.bits.specs.Bits.{bit, bits, bytes, all_binary}
+use Rattle.bits.specs.Bits.{bit, bits, bytes}
 use Rattle.bits.specs.Numbers.{packed, unpacked}
-use Rattle.bits.proofs.Binary.{bits-bytes, binary_bytes}
+use Rattle.bits.proofs.Binary.{bits-bytes}
 use Rattle.bits.proofs.Packed.{packed_below, packed-unpacked_below, unpacked-packed, unpacked-length}
 use Rattle.coding.specs.Codes.{coded, dcch}
 use Rattle.coding.specs.Registers.{memory_high}
@@ -68,8 +68,5 @@ module _ {memory next : ℕ} (six : List ℕ) {out : List ℕ} (size : length si
 
 -- ---- six bits of a number as bytes
 module _ (six : ℕ) {inputs : List ℕ} (written : inputs ≡ bytes (unpacked 6 six)) where
-  pub inputs_binary : all_binary inputs ≡ true
-  inputs_binary = ap all_binary written ∙ binary_bytes (unpacked 6 six)
-
   pub inputs_packed : six < 64 → packed (bits inputs) ≡ six
   inputs_packed h = ap (λ (l : List ℕ). packed (bits l)) written ∙ ap packed (bits-bytes (unpacked 6 six)) ∙ packed-unpacked_below 6 six h

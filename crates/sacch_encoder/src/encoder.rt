@@ -1,8 +1,8 @@
 // The encoder's calls.
 // Ported from 136-bts, sacch.rs, and changed (see NOTICE).
-ghost use Rattle.std.specs.Prelude.{true, ◌≡◌, ◌<◌};
+ghost use Rattle.std.specs.Prelude.{◌≡◌, ◌<◌};
 ghost use Rattle.bits.specs.Arguments.{below_of, first_refusal};
-ghost use Rattle.bits.specs.Bits.{all_binary, bits};
+ghost use Rattle.bits.specs.Bits.{bits};
 ghost use Rattle.bits.specs.Numbers.{packed};
 ghost use Rattle.sacch_encoder.specs.Encoder.{encode_bits_of, encode_word_of, encoded, encoded_all, encoder_state, fields_from, fresh_encoder};
 ghost use Rattle.sacch_encoder.specs.Words.{coded_row, sixes_of};
@@ -10,10 +10,11 @@ ghost use Rattle.sacch_encoder.specs.Words.{coded_row, sixes_of};
 use crate::SacchEncoder;
 use crate::word::{code_six, fields_of};
 use bits::arguments::below;
-use bits::{Refusal, unpack};
-use sacch_interleaver::{aged, all_twelve, field_of, state_unless};
+use bits::{Refusal, all_below, unpack};
+use sacch_interleaver::{aged, field_of, state_unless};
 use words::{MESSAGES, complete};
 
+// (By hand, so that its contract names the fresh record.)
 impl Default for SacchEncoder {
     ghost is_default = { λ e. e ≡ fresh_encoder };
 
@@ -42,12 +43,12 @@ impl SacchEncoder {
     }
 
     // Refused where a number is out of its range.
-    #[tactic(auto, unfolding(crate::specs::Encoder::encoder_fits))]
+    #[tactic(auto, using(bits::proofs::Below::below_less), unfolding(crate::specs::Encoder::encoder_fits))]
     fn state(&self) -> Result<(), Refusal>
         ensures { result ≡ encoder_state self.now }
     {
         let numbers = (self.memory < 32) & (self.cursor < 12);
-        state_unless(numbers & all_twelve(&self.rows))
+        state_unless(numbers & all_below(4096, &self.rows))
     }
 
     // Refused where the state is, or what is given is not below its limit.
@@ -62,7 +63,7 @@ impl SacchEncoder {
     #[inline(always)]
     #[tactic(auto, unfolding(crate::specs::Encoder::encoded))]
     fn store(&mut self, six: &[u8; 6]) -> u16
-        requires { (self.old.memory < 32) × (self.old.cursor < 12) × (all_binary six.now ≡ true) }
+        requires { (self.old.memory < 32) × (self.old.cursor < 12) }
         ensures moved { self.new ≡ encoded self.old (packed (bits six.now)) }
         ensures row { result ≡ coded_row self.old.memory (packed (bits six.now)) }
     {
@@ -87,9 +88,9 @@ impl SacchEncoder {
         Ok(field_of(&self.rows, self.cursor))
     }
 
-    // The fields of a word's eleven slots. All rows are made first, in the order of their slots, and stand beside the ring: a field that read the ring would wait for the row just stored.
+    // The fields of a word's eleven slots. All rows are made first, in the order of their slots, and stand beside the ring: a field that read the ring would wait for the row just stored. (Stored by place: after a `zip` with `iter_mut` a proof knows nothing of the rows.)
     fn send(&mut self, word: &[u8; 66]) -> [u16; 11]
-        requires { (self.old.memory < 32) × (self.old.cursor < 12) × (all_binary word.now ≡ true) }
+        requires { (self.old.memory < 32) × (self.old.cursor < 12) }
         ensures moved { self.new ≡ encoded_all self.old (sixes_of (bits word.now)) }
         ensures sent { result ≡ fields_from self.old (sixes_of (bits word.now)) }
     {

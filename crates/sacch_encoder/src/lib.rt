@@ -5,7 +5,7 @@
 mod encoder;
 mod word;
 
-// The coder's memory and the rows of the last twelve slots. Rows are sent over twelve slots, so some of their bits are still to send.
+// The coder's memory and the rows of the last twelve slots. Rows are sent over twelve slots, so some of their bits are still to send. C holds it.
 #[repr(C)]
 #[derive(Clone, Copy, Debug, PartialEq, Eq)]
 pub struct SacchEncoder {

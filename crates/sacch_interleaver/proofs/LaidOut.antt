@@ -1,12 +1,15 @@
--- A ring laid out from its oldest number on: the loop that does it, and what stands where. Assumes nothing.
-use mathlib.Core.Path.{◌≡◌, refl, sym, ap, ap₂, ◌∙◌}
+-- A ring laid out from its oldest number on: its two parts, and what stands where. Assumes nothing.
+use mathlib.Core.Path.{◌≡◌, sym, ap, ap₂, ◌∙◌}
 use mathlib.Core.List.{List, ◌++◌}
-use Prim.Native.Nat.{ℕ, ◌+◌, ◌%◌, ◌≤◌, ◌<◌}
+use Prim.Native.Nat.{ℕ, ◌+◌, ◌-◌, ◌%◌, ◌<◌}
+use native.Mathlib.Decide.{dec_lt}
 use native.Mathlib.Omega.{arith}
-use lib.ListN.{length, get_or, set, take, drop, replicate, length-append, length-replicate, take-append-drop}
-use lib.Seq.{length-take-le, get_or-take, drop-set-lt, take_at}
+use borrow.Rule.Slice.PartMut.{put_mid}
+use lib.ListN.{length, get_or, take, drop, replicate, get_or-append, length-append, length-drop, length-replicate, take-append-drop}
+use lib.Seq.{length-take-le, get_or-drop, get_or-take, take_at}
+use Rattle.std.proofs.lemmas.List.{get_or-append_right}
+use Rattle.std.proofs.lemmas.Slice.{drop-append-drop, drop-put_mid, take-put_mid}
 use Rattle.bits.specs.Places.{listed}
-use Rattle.bits.proofs.Filled.{Filling, filling_none, filling_more}
 use Rattle.bits.proofs.Listed.{length-listed, get_d_listed, is_listed}
 use Rattle.sacch_interleaver.specs.Diagonal.{laid_out}
 
@@ -26,23 +29,41 @@ module _ (ring : List ℕ) (next : ℕ) where
       sym (get_or-take 12 (laid_out ring next) k 0 h)
       ∙ ap (λ (l : List ℕ). get_or l k 0) (take_at (listed 12 from_oldest) (replicate 11 0) 12 (length-listed 12 from_oldest)) ∙ get_d_listed 12 from_oldest 0 k h
 
-  -- ---- the loop: the places below i hold the ring's, and the last eleven are zeros
-  pub record Laying (run : List ℕ) (i : ℕ) : Type 0 where
-    pub filling : Filling (λ k x. x ≡ from_oldest k) 0 23 run i
-    pub low : i ≤ 12
-    pub rest : drop 12 run ≡ replicate 11 0
+  -- ---- its part from the oldest on, then the part before
+  module _ (size : length ring ≡ 12) (inside : next < 12) where
+    older_length : length (drop next ring) ≡ 12 - next
+    older_length = length-drop next ring ∙ ap (λ (n : ℕ). n - next) size
 
-pub laying_none : {ring : List ℕ} {next : ℕ} → Laying ring next (replicate 23 0) 0
-laying_none = record { filling = filling_none (length-replicate {A = ℕ} 23 0); low = omega arith; rest = refl }
+    newer_length : length (take next ring) ≡ next
+    newer_length = length-take-le next ring (omega arith)
 
-module _ {ring : List ℕ} {next : ℕ} {run : List ℕ} {i : ℕ} (l : Laying ring next run i) where
-  pub laying_more : i < 12 → Laying ring next (set run i (get_or ring ((next + i) % 12) 0)) (i + 1)
-  laying_more h = record { filling = filling_more l.filling _ (omega arith) refl; low = omega arith; rest = drop-set-lt 12 run i _ h ∙ l.rest }
+    turned : drop next ring ++ take next ring ≡ listed 12 from_oldest
+    turned = is_listed 12 from_oldest 0 _ (length-append (drop next ring) (take next ring) ∙ ap₂ ◌+◌ older_length newer_length ∙ omega arith) at
+      where
+        at : (k : ℕ) → k < 12 → get_or (drop next ring ++ take next ring) k 0 ≡ from_oldest k
+        at k b = elim (dec_lt k (12 - next)) [
+          | yes l ↦
+              let place : next + k ≡ (next + k) % 12 = omega arith in
+              get_or-append (drop next ring) (take next ring) 0 k (omega (arith, older_length)) ∙ get_or-drop next ring k 0 ∙ ap (λ (n : ℕ). get_or ring n 0) place
+          | no g ↦
+              let place : k - (12 - next) ≡ (next + k) % 12 = omega arith in
+              get_or-append_right (drop next ring) (take next ring) (12 - next) k 0 older_length (omega arith)
+              ∙ get_or-take next ring (k - (12 - next)) 0 (omega arith) ∙ ap (λ (n : ℕ). get_or ring n 0) place
+        ]
 
-  pub laying_done : 12 ≤ i → run ≡ laid_out ring next
-  unfolding laid_out
-  laying_done h =
-      let size : length run ≡ 23 = l.filling.size in
-      sym (take-append-drop 12 run)
-      ∙ ap₂ ◌++◌ (is_listed 12 (from_oldest ring next) 0 (take 12 run) (length-take-le 12 run (omega arith)) (λ k b. get_or-take 12 run k 0 b ∙ l.filling.right k (omega arith)))
-      l.rest
+    -- both written over zeros
+    pub laid : {older newer : List ℕ} → older ≡ drop next ring → newer ≡ take next ring
+        → put_mid (12 - next) (12 - (12 - next)) (older ++ drop (12 - next) (replicate 23 0)) newer ≡ laid_out ring next
+    unfolding laid_out
+    laid {older} {newer} eo en =
+        let lo : length older ≡ 12 - next = ap length eo ∙ older_length in
+        let ln : length newer ≡ next = ap length en ∙ newer_length in
+        let zeros : List ℕ = replicate 23 0 in
+        let over : List ℕ = older ++ drop (12 - next) zeros in
+        let room : length over ≡ length older + length (drop (12 - next) zeros) = length-append older (drop (12 - next) zeros) in
+        sym (take-append-drop 12 (put_mid (12 - next) (12 - (12 - next)) over newer))
+        ∙ ap₂ ◌++◌
+        (take-put_mid (12 - next) (12 - (12 - next)) over newer 12 (omega (arith, ln)) (omega (arith, lo, room))
+        ∙ ap₂ ◌++◌ (take_at older (drop (12 - next) zeros) (12 - next) lo ∙ eo) en ∙ turned)
+        (drop-put_mid (12 - next) (12 - (12 - next)) over newer 12 (omega arith) (omega (arith, lo, room)) (omega (arith, ln))
+        ∙ drop-append-drop (12 - next) zeros older 12 (omega arith) lo)

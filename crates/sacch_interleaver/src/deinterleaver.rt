@@ -3,10 +3,11 @@
 ghost use Rattle.std.specs.Prelude.{◌≡◌, ◌<◌};
 ghost use Rattle.sacch_interleaver.specs.Deinterleaver.{deinterleaver_fits, deinterleaver_state, field_stored, fresh_deinterleaver, push_row_of, row_found};
 
-use crate::{SacchDeinterleaver, all_twelve, row_of, state_unless};
-use bits::Refusal;
+use crate::{SacchDeinterleaver, row_of, state_unless};
 use bits::arguments::below;
+use bits::{Refusal, all_below};
 
+// (By hand, so that its contract names the fresh record.)
 impl Default for SacchDeinterleaver {
     ghost is_default = { λ d. d ≡ fresh_deinterleaver };
 
@@ -36,12 +37,12 @@ impl SacchDeinterleaver {
     }
 
     // Whether refusal 8 lets a state pass.
-    #[tactic(auto, unfolding(crate::specs::Deinterleaver::deinterleaver_fits))]
+    #[tactic(auto, using(bits::proofs::Below::below_less), unfolding(crate::specs::Deinterleaver::deinterleaver_fits))]
     pub fn fits(&self) -> bool
         ensures { result ≡ deinterleaver_fits self.now }
     {
         let counts = (self.cursor < 12) & (self.received < 13);
-        counts & all_twelve(&self.fields)
+        counts & all_below(4096, &self.fields)
     }
 
     // Refused where a number is out of its range.
@@ -54,12 +55,12 @@ impl SacchDeinterleaver {
     // The field in the place of the oldest.
     #[tactic(auto, unfolding(crate::specs::Deinterleaver::field_stored))]
     fn store(&mut self, field: u16)
-        requires { (self.old.cursor < 12) × (self.old.received < 13) }
+        requires { self.old.cursor < 12 }
         ensures { self.new ≡ field_stored self.old field }
     {
         self.fields[self.cursor] = field;
         self.cursor = (self.cursor + 1) % 12;
-        self.received = (self.received + 1).min(12);
+        self.received = self.received.min(11) + 1;
     }
 
     // The row that the newest field completes, once there are twelve.

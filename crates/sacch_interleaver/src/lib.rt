@@ -6,11 +6,12 @@ mod deinterleaver;
 
 ghost use Rattle.std.specs.Prelude.{◌≡◌, ◌+◌, ◌%◌, ◌^◌, ◌<◌, ◌≤◌, length};
 ghost use Rattle.sacch_interleaver.specs.Deinterleaver.{state_unless};
-ghost use Rattle.sacch_interleaver.specs.Diagonal.{all_twelve, field_of, laid_out, row_of};
+ghost use Rattle.sacch_interleaver.specs.Diagonal.{field_of, laid_out, row_of};
 
 use bits::Refusal;
 
-// The last twelve fields.
+// The last twelve fields. C holds it, so the count stands beside them. It gives any cursor, so that one is below 12 is tested once a call, and a
+// clause below.
 #[repr(C)]
 #[derive(Clone, Copy, Debug, PartialEq, Eq)]
 pub struct SacchDeinterleaver {
@@ -35,10 +36,10 @@ pub fn aged(ring: &[u16], next: usize) -> [u16; 23]
     requires { (length ring.now ≡ 12) × (next < 12) }
     ensures { result ≡ laid_out ring.now next }
 {
+    let (newer, older) = ring.split_at(next);
     let mut run = [0u16; 23];
-    for i in 0..12 {
-        run[i] = ring[(next + i) % 12];
-    }
+    run[..12 - next].copy_from_slice(older);
+    run[12 - next..12].copy_from_slice(newer);
     run
 }
 
@@ -64,20 +65,9 @@ pub fn row_of(fields: &[u16; 12], next: usize) -> u16
     field_of(&turned, 12 - next)
 }
 
-// Refused with State where a test of a record is not passed.
+// Refused with State where a test of a record is not passed. (As `symbol_unless` of `bits`: with the refusal as an argument the calls would be longer.)
 pub fn state_unless(passed: bool) -> Result<(), Refusal>
     ensures { result ≡ state_unless passed }
 {
     if passed { Ok(()) } else { Err(Refusal::State) }
-}
-
-// Whether every row or field has twelve bits.
-pub fn all_twelve(s: &[u16]) -> bool
-    ensures { result ≡ all_twelve s.now }
-{
-    let mut twelve = true;
-    for x in s {
-        twelve &= *x < 4096;
-    }
-    twelve
 }

@@ -13,6 +13,7 @@ use sacch_interleaver::SacchDeinterleaver;
 #[derive(Clone, Copy, Debug, PartialEq, Eq)]
 pub struct SacchReceiver {
     pub deinterleaver: SacchDeinterleaver,
+    // (A count beside the rows, as in C's record: there is no heap.)
     pub rows: [u16; 11],
     // The place of the oldest row.
     pub row_cursor: usize,

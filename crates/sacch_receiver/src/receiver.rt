@@ -5,10 +5,11 @@ ghost use Rattle.sacch_receiver.specs.Receiver.{fresh_receiver, push_of, moved, 
 
 use crate::window::decode_window;
 use crate::{Pushed, ReceiveOutcome, SacchReceiver};
-use bits::Refusal;
+use bits::{Refusal, all_below};
 use sacch_decoder::SacchWord;
-use sacch_interleaver::{SacchDeinterleaver, all_twelve, state_unless};
+use sacch_interleaver::{SacchDeinterleaver, state_unless};
 
+// (By hand, so that its contract names the fresh record.)
 impl Default for SacchReceiver {
     ghost is_default = { λ r. r ≡ fresh_receiver };
 
@@ -41,24 +42,25 @@ impl SacchReceiver {
     }
 
     // Refused where a number that the receiver holds beside its deinterleaver is out of its range. All tests are made: none is likely to fail.
-    #[tactic(auto, unfolding(crate::specs::Receiver::rows_fit))]
+    #[tactic(auto, using(bits::proofs::Below::below_less), unfolding(crate::specs::Receiver::rows_fit))]
     fn state(&self) -> Result<(), Refusal>
         ensures { result ≡ rows_state self.now }
     {
         let counts = (self.row_cursor < 11) & (self.available < 12) & (self.phase < 11);
         let lock = self.locked_phase.is_none_or(|phase| phase < 11);
-        state_unless(counts & lock & all_twelve(&self.rows))
+        state_unless(counts & lock & all_below(4096, &self.rows))
     }
 
-    // The row in the place of the oldest, and the phase one on.
+    // The row in the place of the oldest, and the phase one on. (No type of ring for this and the two stores below: C holds two of the records flat, with their
+    // cursor.)
     #[tactic(auto, unfolding(crate::specs::Receiver::row_stored))]
     fn store(&mut self, row: u16)
-        requires { (self.old.row_cursor < 11) × (self.old.available < 12) × (self.old.phase < 11) }
+        requires { (self.old.row_cursor < 11) × (self.old.phase < 11) }
         ensures { self.new ≡ row_stored self.old row }
     {
         self.rows[self.row_cursor] = row;
         self.row_cursor = (self.row_cursor + 1) % 11;
-        self.available = (self.available + 1).min(11);
+        self.available = self.available.min(10) + 1;
         self.phase = (self.phase + 1) % 11;
     }
 

@@ -7,7 +7,8 @@ ghost use Rattle.sacch_receiver.specs.Stored.{decode_rows, row_bits, window_of};
 use bits::{Refusal, unpack};
 use sacch_decoder::{SacchWord, decode};
 
-// The bits of the rows, oldest first; `next` is the place of the oldest.
+// The bits of the rows, oldest first; `next` is the place of the oldest. (By index: std says nothing of what is written
+// through chunks of the bits beside the ring's two parts.)
 fn window_bits(rows: &[u16; 11], next: usize) -> [u8; 132]
     requires { next < 11 }
     ensures { result ≡ bytes (row_bits (window_of rows.now next)) }

@@ -1,13 +1,8 @@
--- `sacch_interleaver::aged` meets its contract: the places filled so far hold the ring's. Assumes nothing.
-use native.Mathlib.Omega.{arith}
-use Rattle.sacch_interleaver.proofs.LaidOut.{laying_none, laying_more, laying_done}
+-- `sacch_interleaver::aged` meets its contract: the ring's two parts stand in order. Assumes nothing.
+use mathlib.Core.Path.{◌∙◌}
+use Rattle.sacch_interleaver.proofs.LaidOut.{laid}
 use Rattle.sacch_interleaver.proofs.aged.Goals as goal
 
-pub loop-i-init : goal.loop-i-init
-loop-i-init c = laying_none
-
-pub loop-i-preserved : goal.loop-i-preserved
-loop-i-preserved c = laying_more c.loop-i.invariant c.loop-i-test.true
-
 pub returns : goal.returns
-returns c = laying_done c.loop-i.invariant (omega arith)
+returns c =
+    laid _ _ c.requires.0 c.requires.1 (c.copy_from_slice.ensures.after ∙ c.split_at.ensures.back) (c.copy_from_slice-2.ensures.after ∙ c.split_at.ensures.front)

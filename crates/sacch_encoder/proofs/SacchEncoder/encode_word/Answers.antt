@@ -1,4 +1,4 @@
--- `sacch_encoder::SacchEncoder::encode_word` meets its contract: the encoder fits, and the word's bits are bits. Assumes nothing.
+-- `sacch_encoder::SacchEncoder::encode_word` meets its contract: the encoder fits, and the header's bits are bits. Assumes nothing.
 use mathlib.Core.Path.{refl, ap, ◌∙◌}
 use mathlib.Core.List.{[], ◌∷◌}
 use Prim.Native.Nat.{ℕ}
@@ -7,7 +7,6 @@ use Rattle.bits.specs.Bits.{all_binary}
 use Rattle.bits.proofs.Binary.{binary_cons, binary_bytes}
 use Rattle.words.proofs.Made.{flag_binary}
 use Rattle.sacch_encoder.proofs.Fits.{fit_ready}
-use Rattle.sacch_encoder.proofs.WordBits.{filled_binary}
 use Rattle.sacch_encoder.proofs.SacchEncoder.encode_word.Goals as goal
 
 pub complete-requires : goal.complete-requires
@@ -16,6 +15,5 @@ complete-requires c =
 
 pub send-requires : goal.send-requires
 send-requires c =
-    let a = c.args in
     let fit = fit_ready _ _ c.in_ok-arguments.ensures in
-    (fit.memory, fit.cursor, filled_binary a.continuation a.message a.dvcc c.from.ensures c.complete.ensures)
+    (fit.memory, fit.cursor)

@@ -2,7 +2,7 @@
 use Prim.Native.Nat.{◌<◌}
 use native.Mathlib.Omega.{arith}
 use Rattle.sacch_encoder.specs.Words.{sixes_of}
-use Rattle.sacch_encoder.proofs.WordBits.{six_binary, six_packed}
+use Rattle.sacch_encoder.proofs.WordBits.{six_packed}
 use Rattle.sacch_encoder.proofs.Slots.{slots_none, slots_more, slots_done}
 use borrow.Author.Rules.{rules}
 use Rattle.sacch_encoder.proofs.SacchEncoder.send.Goals as goal
@@ -12,11 +12,8 @@ loop-i-init c = slots_none c.requires.0 c.requires.1 (search rules) c.aged-run.e
 
 pub store-requires : goal.store-requires
 store-requires c =
-    let at = c.loop-i in
-    let word = c.args.word.now in
-    let cut = c.as_chunks.ensures.front in
-    let h : at.i < 11 = omega (arith, c.as_chunks.ensures.front_len) in
-    (at.invariant.memory, at.invariant.held.cursor, six_binary word cut c.told-word at.i h c.requires.2)
+    let at = c.loop-i.invariant in
+    (at.memory, at.held.cursor)
 
 pub loop-i-preserved : goal.loop-i-preserved
 loop-i-preserved c =

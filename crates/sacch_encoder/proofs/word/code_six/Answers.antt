@@ -1,18 +1,15 @@
 -- `sacch_encoder::word::code_six` meets its contract: each turn is one step more of the coder's run. Assumes nothing.
 use mathlib.Core.Path.{◌∙◌}
 use native.Mathlib.Omega.{arith}
-use Rattle.bits.proofs.Binary.{binary_at}
 use Rattle.sacch_encoder.proofs.Rows.{row_coded, memory_coded}
 use Rattle.sacch_encoder.proofs.Coding.{coding_none, coding_room, coding_more, coding_done}
 use Rattle.sacch_encoder.proofs.word.code_six.Goals as goal
 
 pub loop-bit-init : goal.loop-bit-init
-loop-bit-init c = coding_none c.requires.0
+loop-bit-init c = coding_none c.requires
 
 pub transition-step-requires : goal.transition-step-requires
-transition-step-requires c =
-    let at = c.loop-bit in
-    (at.invariant.run.below, binary_at _ c.requires.1 at.bit-index (omega arith))
+transition-step-requires c = c.loop-bit.invariant.run.below
 
 pub overflow_mul-row : goal.overflow_mul-row
 overflow_mul-row c = omega (arith, coding_room c.loop-bit.invariant c.told-six (omega arith))

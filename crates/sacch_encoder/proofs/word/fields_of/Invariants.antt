@@ -7,4 +7,4 @@ use Rattle.sacch_interleaver.specs.Diagonal.{field_of}
 use Rattle.sacch_encoder.proofs.word.fields_of.Given as goal
 
 abbrev pub invariant-loop-i : goal.invariant-loop-i
-invariant-loop-i l = Filling (λ k x. x ≡ field_of (take 12 (drop (k + 1) l.run)) 0) 0 11 l.fields l.i
+invariant-loop-i l = Filling (λ k x. x ≡ field_of (take 12 (drop (k + 1) l.run)) 0) 0 11 l.field-items l.i

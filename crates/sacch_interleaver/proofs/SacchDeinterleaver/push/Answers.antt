@@ -7,7 +7,7 @@ use Rattle.sacch_interleaver.proofs.Deinterleaving.{passed_state}
 use Rattle.sacch_interleaver.proofs.SacchDeinterleaver.push.Goals as goal
 
 pub store-requires : goal.store-requires
-store-requires c = let fit = passed_state _ (sym c.in_ok-state.ensures) in (fit.cursor, fit.received)
+store-requires c = (passed_state _ (sym c.in_ok-state.ensures)).cursor
 
 pub row-requires : goal.row-requires
 unfolding field_stored

@@ -7,7 +7,7 @@ use Rattle.sacch_receiver.proofs.Fitting.{passed_rows, rows_fit_of}
 use Rattle.sacch_receiver.proofs.SacchReceiver.push_outcome.Goals as goal
 
 pub store-requires : goal.store-requires
-store-requires c = let fit = rows_fit_of _ (passed_rows _ (sym c.in_ok-state.ensures)) in (fit.row_cursor, fit.available, fit.phase)
+store-requires c = let fit = rows_fit_of _ (passed_rows _ (sym c.in_ok-state.ensures)) in (fit.row_cursor, fit.phase)
 
 pub trial-requires : goal.trial-requires
 unfolding row_stored
