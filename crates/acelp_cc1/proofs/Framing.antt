@@ -13,9 +13,9 @@ use Rattle.coding.specs.Registers.{memory_low}
 use Rattle.coding.proofs.Coded.{coded-length}
 use Rattle.puncturing.specs.Punctured.{sent_of}
 use Rattle.puncturing.proofs.Kept.{sent_length}
-use Rattle.acelp_cc1.specs.Frames.{ordered, inputs_of, ordered_frame, frame_of}
+use Rattle.acelp_cc1.specs.Frames.{ordered, parity_of, inputs_with, inputs_of, ordered_frame, frame_of}
 use Rattle.acelp_cc1.proofs.Ordering.{ordered-bytes, bytes_drop}
-use Rattle.acelp_cc1.proofs.Inputs.{inputs_length}
+use Rattle.acelp_cc1.proofs.Inputs.{bytes-inputs, inputs_length}
 use Rattle.acelp_cc1.proofs.Parts.{to_end}
 
 -- 208 bits of 108 inputs
@@ -32,15 +32,15 @@ module _ (speech : List ℕ) (binary : all_binary speech ≡ true) {sorted : Lis
   sorted_bits : bits sorted ≡ order
   sorted_bits = ap bits sorted_bytes ∙ bits-bytes order
 
-  pub sorted_binary : all_binary sorted ≡ true
-  sorted_binary = ap all_binary sorted_bytes ∙ binary_bytes order
+  module _ {inputs : List ℕ} (f : inputs ≡ inputs_with 0 sorted (bytes (parity_of (bits sorted)))) where
+    inputs_bytes : inputs ≡ bytes (inputs_of order)
+    inputs_bytes = f ∙ ap₂ (λ (l : List ℕ) (u : List Bool). inputs_with 0 l (bytes (parity_of u))) sorted_bytes sorted_bits ∙ sym (bytes-inputs order)
 
-  module _ {inputs : List ℕ} (f : inputs ≡ bytes (inputs_of (bits sorted))) where
     pub inputs_binary : all_binary inputs ≡ true
-    inputs_binary = ap all_binary f ∙ binary_bytes (inputs_of (bits sorted))
+    inputs_binary = ap all_binary inputs_bytes ∙ binary_bytes (inputs_of order)
 
     inputs_bits : bits inputs ≡ inputs_of order
-    inputs_bits = ap bits f ∙ bits-bytes (inputs_of (bits sorted)) ∙ ap inputs_of sorted_bits
+    inputs_bits = ap bits inputs_bytes ∙ bits-bytes (inputs_of order)
 
     pub framed : (frame : List ℕ) (n : ℕ) {frame₁ two : List ℕ} → length frame₁ ≤ 208 + n → frame₁ ≡ bytes (sent_of (coded acelp (memory_low 0) (bits inputs))) ++ drop 208 frame
         → two ≡ drop 96 sorted → put_mid 208 n frame₁ two ≡ bytes (frame_of (bits speech))

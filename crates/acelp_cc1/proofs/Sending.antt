@@ -17,7 +17,7 @@ use Rattle.bits.proofs.Scattered.{filled_listed}
 use Rattle.coding.specs.Codes.{tapped, coded, acelp}
 use Rattle.coding.specs.Registers.{memory_low}
 use Rattle.puncturing.specs.Punctured.{sent_of}
-use Rattle.acelp_cc1.specs.Places.{by_turns}
+use Rattle.acelp_cc1.specs.Turns.{by_turns}
 use Rattle.acelp_cc1.proofs.Ordering.{bytes_drop}
 
 -- ---- lists by turns

@@ -1,7 +1,7 @@
 -- The channel bits of a frame (TIA/EIA-136-410 4.2 and 4.3), bits in the order of the standard's tables.
-use Rattle.std.specs.Prelude.{Bool, false, cond, List, [], ◌∷◌, ◌++◌, ℕ, ◌+◌, ◌-◌, ◌/◌, ◌%◌, eqb, ltb, get_or, take, drop}
+use Rattle.std.specs.Prelude.{Bool, false, cond, List, [], ◌∷◌, ◌++◌, ℕ, ◌+◌, ◌-◌, ◌/◌, ◌%◌, eqb, ltb, get_or, take, drop, replicate}
 use Rattle.bits.specs.Numbers.{unpacked}
-use Rattle.bits.specs.Places.{listed, place_in}
+use Rattle.bits.specs.Places.{listed, place_in, taken, put}
 use Rattle.coding.specs.Codes.{coded, acelp}
 use Rattle.coding.specs.Registers.{memory_low}
 use Rattle.checksums.specs.Checksums.{checksum7_of}
@@ -19,7 +19,7 @@ speech_order =
 
 -- codec bits in the speech order, and back
 unfoldable pub ordered : {A : Type 0} → A → List A → List A
-ordered d speech = listed 148 (λ (i : ℕ). get_or speech (get_or speech_order i 0) d)
+ordered d speech = taken d speech_order speech
 
 unfoldable pub unordered : {A : Type 0} → A → List A → List A
 unordered d order = listed 148 (λ (s : ℕ). get_or order (place_in speech_order s) d)
@@ -41,18 +41,19 @@ parity_places = 24 ∷ 25 ∷ 26 ∷ 27 ∷ 78 ∷ 77 ∷ 76 ∷ []
 unfoldable pub parity_of : List Bool → List Bool
 parity_of order = unpacked 7 (checksum7_of (take 48 order))
 
+-- class-one bits and checksum bits put at their places into zeros
+unfoldable pub inputs_with : {A : Type 0} → A → List A → List A → List A
+inputs_with d order parity = put d parity_places parity (put d information_places order (replicate 108 d))
+
 unfoldable pub inputs_of : List Bool → List Bool
-inputs_of order =
-    listed 108
-    (λ (p : ℕ). cond (ltb (place_in parity_places p) 7) (get_or (parity_of order) (place_in parity_places p) false)
-    (cond (ltb (place_in information_places p) 96) (get_or order (place_in information_places p) false) false))
+inputs_of order = inputs_with false order (parity_of order)
 
 -- the class-one bits of inputs, and their checksum bits
 unfoldable pub class_one_of : List Bool → List Bool
-class_one_of inputs = listed 96 (λ (i : ℕ). get_or inputs (information_place i) false)
+class_one_of inputs = taken false information_places inputs
 
 unfoldable pub check_of : List Bool → List Bool
-check_of inputs = listed 7 (λ (k : ℕ). get_or inputs (get_or parity_places k 0) false)
+check_of inputs = taken false parity_places inputs
 
 -- ---- a frame as it is sent: 208 protected bits, then the 52 bits of class two
 unfoldable pub ordered_frame : List Bool → List Bool

@@ -1,4 +1,4 @@
--- ACELP CC1 speech frames: their channel bits (Frames), the calls (Calls), and bytes by their places (Places).
+-- ACELP CC1 speech frames: their channel bits (Frames), the calls (Calls), and two lists by turns (Turns).
 pub mod Frames
 pub mod Calls
-pub mod Places
+pub mod Turns

@@ -6,15 +6,15 @@ use Prim.Native.Nat.{ℕ, zero, suc}
 use native.Mathlib.Omega.{arith}
 use native.Mathlib.Nat.{not-suc-le-zero}
 use lib.Dec.{T, leb, leb→le}
-use lib.ListN.{length, get_or}
+use lib.ListN.{length, get_or, get_or-map}
 use Rattle.std.specs.declared.ops.Range.{Range}
-use Rattle.bits.specs.Bits.{byte, bits, bytes, all_binary}
+use Rattle.bits.specs.Bits.{byte, bytes}
 use Rattle.bits.specs.Places.{listed}
 use Rattle.bits.proofs.Listed.{map-listed, listed_same}
 use Rattle.bits.proofs.Tested.{both, both_left, both_right}
 use Rattle.speech.specs.Classes.{is_class_two, passing, placed, taken_from, class_two_of, protected_of}
 use Rattle.speech.specs.Ranges.{Bounds, ranges_of, put_ranges}
-use Rattle.speech.proofs.InputBits.{byte_at, by_places}
+use Rattle.speech.proofs.InputBits.{by_places}
 
 -- ---- ranges in a frame, by one test
 unfoldable pub inside : List (Range ℕ) → Bool
@@ -69,14 +69,19 @@ protected_ranges frame e =
     let l : frame ≡ listed 260 (λ i. get_or frame i 0) = by_places 0 260 frame e in
     ap (ranges_of between) l ∙ protected_listed (λ i. get_or frame i 0) ∙ ap protected_of (sym l)
 
-module _ (protected two frame : List ℕ) (sizes : (length protected ≡ 178) × (length two ≡ 82) × (length frame ≡ 260)) (binary : (all_binary protected ≡ true) × (all_binary two ≡ true)) where
-  pub merged : put_ranges between protected (put_ranges turns two frame) ≡ bytes (placed (bits protected) (bits two))
-  unfolding placed
-  merged =
-      ap₂ (put_ranges between) (by_places 0 178 protected sizes.0) (ap₂ (put_ranges turns) (by_places 0 82 two sizes.1) (by_places 0 260 frame sizes.2))
-      ∙ merged_listed (λ i. get_or frame i 0) (λ i. get_or two i 0) (λ i. get_or protected i 0)
-      ∙ sym (map-listed byte 260 _ ∙ listed_same 260 _ _ (λ p. go (is_class_two p) (passing is_class_two p) (passing (λ q. not (is_class_two q)) p)))
-    where
-      go : (t : Bool) (i j : ℕ) → byte (cond t (get_or (bits two) i false) (get_or (bits protected) j false)) ≡ cond t (get_or two i 0) (get_or protected j 0)
-      go true i j = byte_at two binary.1 i
-      go false i j = byte_at protected binary.0 j
+pub merged : (protected two frame : List ℕ) → length protected ≡ 178 → length two ≡ 82 → length frame ≡ 260
+    → put_ranges between protected (put_ranges turns two frame) ≡ placed 0 protected two
+unfolding placed
+merged protected two frame protecteds twos all =
+    ap₂ (put_ranges between) (by_places 0 178 protected protecteds) (ap₂ (put_ranges turns) (by_places 0 82 two twos) (by_places 0 260 frame all))
+    ∙ merged_listed (λ i. get_or frame i 0) (λ i. get_or two i 0) (λ i. get_or protected i 0)
+
+-- bits stay bits
+pub bytes-placed : (protected two : List Bool) → bytes (placed false protected two) ≡ placed 0 (bytes protected) (bytes two)
+unfolding placed
+bytes-placed protected two =
+    map-listed byte 260 _ ∙ listed_same 260 _ _ (λ p. go (is_class_two p) (passing is_class_two p) (passing (λ q. not (is_class_two q)) p))
+  where
+    go : (t : Bool) (i j : ℕ) → byte (cond t (get_or two i false) (get_or protected j false)) ≡ cond t (get_or (bytes two) i 0) (get_or (bytes protected) j 0)
+    go true i j = sym (get_or-map byte two i false)
+    go false i j = sym (get_or-map byte protected j false)

@@ -62,13 +62,11 @@ module _ {ranges : List (Range ℕ)} {list out : List ℕ} {at k : ℕ} (t : Tak
   pub taking_room : k < length ranges → at + long_of ranges k ≤ length out
   taking_room h = omega (arith, t.size, t.left, total_here ranges k h)
 
-  pub taking_more : {out' : List ℕ} → k < length ranges
-      → out' ≡ paste out at (drop (get_or ranges k none).start list) (long_of ranges k)
-      → Taking ranges list out' (at + long_of ranges k) (k + 1)
-  taking_more {out'} h e =
+  pub taking_more : {out' : List ℕ} {n : ℕ} → k < length ranges → n ≡ long_of ranges k
+      → out' ≡ paste out at (drop (get_or ranges k none).start list) n → Taking ranges list out' (at + n) (k + 1)
+  taking_more {out'} {n} h en e =
       let a : ℕ = (get_or ranges k none).start in
-      let n : ℕ = long_of ranges k in
-      let room : at + n ≤ length out = taking_room h in
+      let room : at + n ≤ length out = omega (arith, taking_room h) in
       let read : n ≤ length (drop a list) = omega (arith, length-drop a list, run_within ranges k h b) in
       record {
         low = omega arith;
@@ -78,7 +76,9 @@ module _ {ranges : List (Range ℕ)} {list out : List ℕ} {at k : ℕ} (t : Tak
             ap (λ (l : List ℕ). take (at + n) l ++ ranges_of (drop (k + 1) ranges) list) e
             ∙ ap (λ (l : List ℕ). l ++ ranges_of (drop (k + 1) ranges) list) (take-paste out at (drop a list) n (omega arith) read)
             ∙ append_assoc (take at out) (take n (drop a list)) (ranges_of (drop (k + 1) ranges) list)
-            ∙ ap (λ (l : List ℕ). take at out ++ l) (sym (ranges_here ranges k h list)) ∙ t.rest;
+            ∙ ap (λ (l : List ℕ). take at out ++ l)
+            (ap (λ (m : ℕ). take m (drop a list) ++ ranges_of (drop (k + 1) ranges) list) en ∙ sym (ranges_here ranges k h list))
+            ∙ t.rest;
       }
 
   pub taking_done : length ranges ≤ k → out ≡ ranges_of ranges list
@@ -102,19 +102,18 @@ module _ {ranges : List (Range ℕ)} {bits list₀ list : List ℕ} {at k : ℕ}
   putting_room : k < length ranges → (get_or ranges k none).start + long_of ranges k ≤ length list
   putting_room h = omega (arith, t.size, run_within ranges k h b)
 
-  pub putting_more : {list' : List ℕ} → k < length ranges → length bits ≡ total_of ranges
-      → list' ≡ paste list (get_or ranges k none).start (drop at bits) (long_of ranges k)
-      → Putting ranges bits list₀ list' (at + long_of ranges k) (k + 1)
-  putting_more {list'} h whole e =
+  pub putting_more : {list' : List ℕ} {n : ℕ} → k < length ranges → length bits ≡ total_of ranges → n ≡ long_of ranges k
+      → list' ≡ paste list (get_or ranges k none).start (drop at bits) n → Putting ranges bits list₀ list' (at + n) (k + 1)
+  putting_more {list'} {n} h whole en e =
       let a : ℕ = (get_or ranges k none).start in
-      let n : ℕ = long_of ranges k in
       let read : n ≤ length (drop at bits) = omega (arith, length-drop at bits, putting_read h whole) in
       record {
         low = omega arith;
-        size = ap length e ∙ length-paste list a (drop at bits) n (putting_room h) read ∙ t.size;
+        size = ap length e ∙ length-paste list a (drop at bits) n (omega (arith, putting_room h)) read ∙ t.size;
         left = omega (arith, t.left, total_here ranges k h);
         rest =
             ap₂ (λ (u l : List ℕ). put_ranges (drop (k + 1) ranges) u l) (sym (drop-drop n at bits)) e
+            ∙ ap (λ (m : ℕ). put_ranges (drop (k + 1) ranges) (drop m (drop at bits)) (paste list a (drop at bits) m)) en
             ∙ sym (put_here ranges k h (drop at bits) list) ∙ t.rest;
       }
 

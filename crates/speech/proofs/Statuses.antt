@@ -1,39 +1,35 @@
 -- The status of a frame: whether the checksum in its inputs is theirs. Assumes nothing.
 use mathlib.Core.Path.{◌≡◌, sym, ap, ap₂, subst, ◌∙◌}
-use mathlib.Core.Bool.{Bool, cond}
+use mathlib.Core.Bool.{Bool, false, cond}
 use mathlib.Core.List.{List}
 use Prim.Native.Nat.{ℕ, ◌^◌, ◌<◌}
 use lib.Dec.{eqb}
 use borrow.Author.Tests.{eq-eqb, ne_eqb}
-use Rattle.bits.specs.Bits.{bits, bytes}
+use Rattle.bits.specs.Bits.{bits}
 use Rattle.bits.specs.Numbers.{packed}
-use Rattle.bits.proofs.Binary.{bits-bytes}
+use Rattle.bits.specs.Places.{taken}
 use Rattle.bits.proofs.Packed.{packed_below, packed-unpacked_below}
 use Rattle.checksums.specs.Checksums.{check_bits, checksum7_of, speech}
-use Rattle.checksums.proofs.Division.{check_bits-length}
-use Rattle.speech.specs.Inputs.{bits_at, parity_places, significant_places, parity_of}
+use Rattle.checksums.proofs.Answers.{checksum7_below}
+use Rattle.speech.specs.Inputs.{parity_places, significant_places, parity_of}
 use Rattle.speech.specs.Calls.{status_of}
 use Rattle.speech.specs.declared.CrcStatus.TheVariants.{Valid, Failed}
 
 -- a checksum has seven bits
-pub checksum7_below : (u : List Bool) → checksum7_of u < 2 ^ 7
-unfolding checksum7_of
-checksum7_below u = subst (λ (n : ℕ). packed (check_bits speech u) < 2 ^ n) (check_bits-length speech u) (packed_below (check_bits speech u))
-
-own_parity : (u : List Bool) → packed (parity_of u) ≡ checksum7_of (bits_at significant_places u)
+own_parity : (u : List Bool) → packed (parity_of u) ≡ checksum7_of (taken false significant_places u)
 unfolding parity_of
-own_parity u = packed-unpacked_below 7 (checksum7_of (bits_at significant_places u)) (checksum7_below (bits_at significant_places u))
+own_parity u = packed-unpacked_below 7 (checksum7_of (taken false significant_places u)) (checksum7_below (taken false significant_places u))
 
-pub status_by : (u : List Bool) (t : Bool) → eqb (packed (bits_at parity_places u)) (packed (parity_of u)) ≡ t → status_of u ≡ cond t Valid Failed
+pub status_by : (u : List Bool) (t : Bool) → eqb (packed (taken false parity_places u)) (packed (parity_of u)) ≡ t → status_of u ≡ cond t Valid Failed
 unfolding status_of
 status_by u t e = ap (λ (b : Bool). cond b Valid Failed) e
 
-module _ (inputs parity : List ℕ) {received remainder : ℕ} (held : parity ≡ bytes (bits_at parity_places (bits inputs)))
-    (er : received ≡ packed (bits parity)) (ec : remainder ≡ checksum7_of (bits_at significant_places (bits inputs))) where
+module _ (inputs : List ℕ) {received remainder : ℕ} (er : received ≡ packed (taken false parity_places (bits inputs)))
+    (ec : remainder ≡ checksum7_of (taken false significant_places (bits inputs))) where
   tested : (t : Bool) → eqb received remainder ≡ t → status_of (bits inputs) ≡ cond t Valid Failed
   tested t e =
       status_by (bits inputs) t
-      (ap₂ eqb (sym (er ∙ ap packed (ap bits held ∙ bits-bytes (bits_at parity_places (bits inputs))))) (own_parity (bits inputs) ∙ sym ec) ∙ e)
+      (ap₂ eqb (sym er) (own_parity (bits inputs) ∙ sym ec) ∙ e)
 
   pub failed : (received ≡ remainder → ⊥) → status_of (bits inputs) ≡ Failed
   failed n = tested _ (ne_eqb received remainder n)

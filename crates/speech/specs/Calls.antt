@@ -1,14 +1,15 @@
 -- What `encode` and `decode_candidate` do.
-use Rattle.std.specs.Prelude.{Bool, cond, List, reverse, ℕ, eqb, length, Result, Ok, Err}
+use Rattle.std.specs.Prelude.{Bool, false, cond, List, reverse, ℕ, eqb, length, Result, Ok, Err}
 use Rattle.bits.specs.Bits.{bits, bytes}
 use Rattle.bits.specs.Numbers.{packed}
+use Rattle.bits.specs.Places.{taken}
 use Rattle.bits.specs.Arguments.{Arguments, first_refusal, exact_of, binary_of, two_and_room}
 use Rattle.bits.specs.Calls.{WriteCall}
 use Rattle.bits.specs.declared.Refusal.{Refusal}
 use Rattle.bits.specs.declared.Refusal.TheVariants as refusal
 use Rattle.trellis.specs.Nearest.{terminated_words, decided}
 use Rattle.viterbi.specs.Hard.{weight}
-use Rattle.speech.specs.Inputs.{bits_at, parity_places, parity_of, class_one_of}
+use Rattle.speech.specs.Inputs.{parity_places, parity_of, class_one_of}
 use Rattle.speech.specs.Classes.{class_two_of, protected_of}
 use Rattle.speech.specs.Frames.{frame_of}
 use Rattle.speech.specs.declared.CrcStatus.{CrcStatus}
@@ -31,7 +32,7 @@ decode_arguments frame room_one room_two =
 
 -- whether the checksum in inputs is theirs; a failed one is a status of an accepted frame
 unfoldable pub status_of : List Bool → CrcStatus
-status_of inputs = cond (eqb (packed (bits_at parity_places inputs)) (packed (parity_of inputs))) Valid Failed
+status_of inputs = cond (eqb (packed (taken false parity_places inputs)) (packed (parity_of inputs))) Valid Failed
 
 -- The weight of a word, inputs newest first, is its disagreements with the protected bits.
 abbrev pub frame_weight : List ℕ → List Bool → ℕ

@@ -1,5 +1,5 @@
 -- The 260 places of a frame (IS-54-B 2.1.3.3.4), bits in the order of the standard's tables.
-use Rattle.std.specs.Prelude.{Bool, false, cond, not, ◌&&◌, ◌||◌, List, [], ◌∷◌, ℕ, zero, suc, ◌+◌, eqb, leb, get_or}
+use Rattle.std.specs.Prelude.{Bool, cond, not, ◌&&◌, ◌||◌, List, [], ◌∷◌, ℕ, zero, suc, ◌+◌, eqb, leb, get_or}
 use Rattle.bits.specs.Places.{listed}
 
 -- 2.1.3.3.4: the places of class two
@@ -14,10 +14,10 @@ passing test zero = 0
 passing test (suc n) = cond (test n) (passing test n + 1) (passing test n)
 
 -- class two and protected bits, each in order, at their places
-unfoldable pub placed : List Bool → List Bool → List Bool
-placed protected class_two =
+unfoldable pub placed : {A : Type 0} → A → List A → List A → List A
+placed d protected class_two =
     listed 260
-    (λ (p : ℕ). cond (is_class_two p) (get_or class_two (passing is_class_two p) false) (get_or protected (passing (λ (q : ℕ). not (is_class_two q)) p) false))
+    (λ (p : ℕ). cond (is_class_two p) (get_or class_two (passing is_class_two p) d) (get_or protected (passing (λ (q : ℕ). not (is_class_two q)) p) d))
 
 -- the elements of a frame at the places that pass a test, in order, from place p on
 unfoldable pub taken_from : {A : Type 0} → (ℕ → Bool) → ℕ → List A → List A

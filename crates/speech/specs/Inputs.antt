@@ -1,7 +1,7 @@
 -- The 89 inputs of a frame (IS-54-B 2.1.3.3.3): 77 class-one bits from place 4 on, seven checksum bits around them, and five zeros.
 use Rattle.std.specs.Prelude.{Bool, false, cond, List, [], ◌∷◌, ℕ, ◌-◌, ltb, get_or, take, drop}
 use Rattle.bits.specs.Numbers.{unpacked}
-use Rattle.bits.specs.Places.{listed, place_in}
+use Rattle.bits.specs.Places.{listed, place_in, taken}
 use Rattle.checksums.specs.Checksums.{checksum7_of}
 
 -- 2.1.3.3.3.3: the significant places, and those of the checksum's bits, the highest coefficient first
@@ -11,14 +11,9 @@ significant_places = 80 ∷ 4 ∷ 79 ∷ 5 ∷ 78 ∷ 6 ∷ 77 ∷ 7 ∷ 76 ∷ 
 abbrev pub parity_places : List ℕ
 parity_places = 0 ∷ 83 ∷ 1 ∷ 82 ∷ 2 ∷ 81 ∷ 3 ∷ []
 
--- the bits of a list at some places
-unfoldable pub bits_at : List ℕ → List Bool → List Bool
-bits_at [] l = []
-bits_at (p ∷ places) l = get_or l p false ∷ bits_at places l
-
 -- the checksum of inputs, over the significant ones
 unfoldable pub parity_of : List Bool → List Bool
-parity_of inputs = unpacked 7 (checksum7_of (bits_at significant_places inputs))
+parity_of inputs = unpacked 7 (checksum7_of (taken false significant_places inputs))
 
 -- the inputs of class-one bits and checksum bits
 unfoldable pub inputs_with : List Bool → List Bool → List Bool

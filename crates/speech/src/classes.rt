@@ -1,7 +1,6 @@
 // The places of a frame (IS-54-B 2.1.3.3.4), on which class two and the protected bits take turns.
 // Ported from 136-bts, speech.rs, and changed (see NOTICE).
-ghost use Rattle.std.specs.Prelude.{true, ◌≡◌, length};
-ghost use Rattle.bits.specs.Bits.{all_binary, bits, bytes};
+ghost use Rattle.std.specs.Prelude.{◌≡◌, length};
 ghost use Rattle.speech.specs.Classes.{class_two_of, placed, protected_of};
 
 use crate::ranges::{put_ranges, take_ranges};
@@ -49,9 +48,8 @@ pub fn take_protected(frame: &[u8], protected: &mut [u8; 178])
 
 // Writes a frame of protected and class-two bits.
 pub fn merge(protected: &[u8; 178], class_two: &[u8], frame: &mut [u8])
-    requires lengths { (length class_two.now ≡ 82) × (length frame.old ≡ 260) }
-    requires binary { (all_binary protected.now ≡ true) × (all_binary class_two.now ≡ true) }
-    ensures { frame.new ≡ bytes (placed (bits protected.now) (bits class_two.now)) }
+    requires { (length class_two.now ≡ 82) × (length frame.old ≡ 260) }
+    ensures { frame.new ≡ placed 0 protected.now class_two.now }
 {
     put_ranges(&CLASS_TWO, class_two, frame);
     put_ranges(&PROTECTED, protected, frame);

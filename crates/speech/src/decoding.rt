@@ -1,10 +1,9 @@
 // Decoding of a frame.
 // Ported from 136-bts, speech.rs, and changed (see NOTICE).
-ghost use Rattle.std.specs.Prelude.{true, ◌≡◌, length};
-ghost use Rattle.bits.specs.Bits.{all_binary};
+ghost use Rattle.std.specs.Prelude.{◌≡◌, length};
 ghost use Rattle.trellis.specs.Search.{Found};
 ghost use Rattle.trellis.specs.Words.{Terminated};
-ghost use Rattle.speech.specs.Calls.{decode_arguments, decode_call, decode_of, exit_of, frame_weight};
+ghost use Rattle.speech.specs.Calls.{decode_arguments, decode_call, exit_of, frame_weight};
 
 use crate::SpeechCandidate;
 use crate::classes::{take_class_two, take_protected};
@@ -24,7 +23,7 @@ fn decode_arguments(frame: &[u8], room_one: usize, room_two: usize) -> Result<()
 
 // Writes the nearest inputs.
 fn nearest_inputs(frame: &[u8], inputs: &mut [u8; 89]) -> Outcome
-    requires { (length frame.now ≡ 260) × (all_binary frame.now ≡ true) }
+    requires { length frame.now ≡ 260 }
     ensures { Found (Terminated 89) (frame_weight frame.now) inputs.new result }
 {
     let mut protected = [0u8; 178];
@@ -32,15 +31,16 @@ fn nearest_inputs(frame: &[u8], inputs: &mut [u8; 89]) -> Outcome
     viterbi::terminated(&protected, inputs)
 }
 
-// Searches; nothing is written before the word is known to be the only nearest one.
-fn settle(
+// Writes the speech bits of the word nearest to a frame, where it is the only one, and gives its status and its number of corrected bits.
+// Nothing is written before the word is known to be the only one.
+pub fn decode_candidate(
     frame: &[u8],
     class_one: &mut [u8],
     class_two: &mut [u8],
 ) -> Result<SpeechCandidate, Refusal>
-    requires { decode_arguments frame.now (length class_one.old) (length class_two.old) ≡ Ok tt }
-    ensures { exit_of result class_one.new class_two.new ≡ decode_of frame.now class_one.old class_two.old }
+    ensures { exit_of result class_one.new class_two.new ≡ decode_call frame.now class_one.old class_two.old }
 {
+    decode_arguments(frame, class_one.len(), class_two.len())?;
     let mut inputs = [0u8; 89];
     let found = nearest_inputs(frame, &mut inputs);
     if found.tie {
@@ -52,16 +52,4 @@ fn settle(
         crc: crc_status(&inputs),
         corrected: found.metric,
     })
-}
-
-// Writes the speech bits of the word nearest to a frame, where it is the only one, and gives its status and its number of corrected bits.
-pub fn decode_candidate(
-    frame: &[u8],
-    class_one: &mut [u8],
-    class_two: &mut [u8],
-) -> Result<SpeechCandidate, Refusal>
-    ensures { exit_of result class_one.new class_two.new ≡ decode_call frame.now class_one.old class_two.old }
-{
-    decode_arguments(frame, class_one.len(), class_two.len())?;
-    settle(frame, class_one, class_two)
 }

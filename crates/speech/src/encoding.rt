@@ -1,7 +1,7 @@
 // Encoding of a frame.
 // Ported from 136-bts, speech.rs, and changed (see NOTICE).
-ghost use Rattle.std.specs.Prelude.{true, ◌≡◌, length};
-ghost use Rattle.bits.specs.Bits.{all_binary, bits, bytes};
+ghost use Rattle.std.specs.Prelude.{◌≡◌, length};
+ghost use Rattle.bits.specs.Bits.{bits, bytes};
 ghost use Rattle.coding.specs.Codes.{coded, dcch};
 ghost use Rattle.coding.specs.Registers.{memory_high};
 ghost use Rattle.speech.specs.Calls.{Encoding};
@@ -16,11 +16,10 @@ use coding::codes::Dcch;
 
 // Writes the protected bits of class one.
 fn encode_class_one(class_one: &[u8], protected: &mut [u8; 178])
-    requires { (length class_one.now ≡ 77) × (all_binary class_one.now ≡ true) }
+    requires { length class_one.now ≡ 77 }
     ensures { protected.new ≡ bytes (coded dcch (memory_high 0) (inputs_of (bits class_one.now))) }
 {
-    let inputs = inputs_of(class_one);
-    Dcch::convolutional_encode(0, &inputs, protected);
+    Dcch::convolutional_encode(0, &inputs_of(class_one), protected);
 }
 
 // Writes the frame that is sent for speech bits.

@@ -12,7 +12,7 @@ pub use bits::Refusal;
 pub use decoding::decode_candidate;
 pub use encoding::encode;
 
-// Whether a frame's checksum is right. A failed one is no refusal.
+// Whether a frame's checksum is right. A failed one is no refusal. (Types beside `DecodedFrame` of `acelp_cc1`: the original names both, and so does rust/.)
 #[derive(Clone, Copy, Debug, PartialEq, Eq)]
 pub enum CrcStatus {
     Valid,

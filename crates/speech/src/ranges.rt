@@ -1,4 +1,4 @@
-// Ranges of places, copied whole: specs/Ranges.antt.
+// Ranges of places, copied whole: specs/Ranges.antt. Where one goes depends on the lengths of those before it, so that place is counted.
 ghost use Rattle.std.specs.Prelude.{◌≡◌, length};
 ghost use Rattle.speech.specs.Ranges.{Bounds, put_ranges, ranges_of, total_of};
 
@@ -11,7 +11,7 @@ pub fn take_ranges(ranges: &[Range<usize>], list: &[u8], out: &mut [u8])
 {
     let mut at = 0;
     for range in ranges {
-        let n = range.end - range.start;
+        let n = range.len();
         out[at..at + n].copy_from_slice(&list[range.start..range.end]);
         at += n;
     }
@@ -24,7 +24,7 @@ pub fn put_ranges(ranges: &[Range<usize>], bits: &[u8], list: &mut [u8])
 {
     let mut at = 0;
     for range in ranges {
-        let n = range.end - range.start;
+        let n = range.len();
         list[range.start..range.end].copy_from_slice(&bits[at..at + n]);
         at += n;
     }

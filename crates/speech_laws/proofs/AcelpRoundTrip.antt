@@ -8,10 +8,11 @@ use lib.ListN.{length, get_or, take, drop, length-map, length-append, length-dro
 use lib.Seq.{take_at, drop_at}
 use Rattle.std.specs.Prelude.{Ok}
 use Rattle.bits.specs.Bits.{bit, bits, bytes, byte, all_binary, disagreements}
-use Rattle.bits.specs.Places.{place_in}
+use Rattle.bits.specs.Places.{listed, place_in}
 use Rattle.bits.specs.Arguments.{Arguments}
 use Rattle.bits.proofs.Binary.{bits-bytes, bytes_bits, binary_bytes}
-use Rattle.bits.proofs.Listed.{length-listed, taken_back}
+use Rattle.bits.proofs.Listed.{taken_back}
+use Rattle.bits.proofs.PlacesMoved.{taken-length, taken-listed}
 use Rattle.bits.proofs.Refusing.{room_passed}
 use Rattle.bits.proofs.Tally.{disagreements_self, disagreements_none}
 use Rattle.coding.specs.Codes.{coded, acelp}
@@ -27,16 +28,18 @@ use Rattle.acelp_cc1.proofs.Inputs.{inputs_length}
 use Rattle.acelp_cc1.proofs.Meaning.{acelp-decided}
 use Rattle.acelp_cc1.proofs.Framing.{protected_length}
 use Rattle.acelp_cc1.proofs.OwnInputs.{class_one_own, valid_own, own}
-use Rattle.acelp_cc1.proofs.Placing.{speech_place_below, speech_at_place}
+use Rattle.acelp_cc1.proofs.Placing.{speech_size, speech_place_below, speech_at_place}
 
 ordered-length : (speech : List Bool) → length (ordered false speech) ≡ 148
 unfolding ordered
-ordered-length speech = length-listed 148 _
+ordered-length speech = taken-length false speech_order speech ∙ speech_size
 
 -- the speech order and back
 pub unordered-ordered : (speech : List Bool) → length speech ≡ 148 → unordered false (ordered false speech) ≡ speech
 unfolding ordered unordered
-unordered-ordered speech size = taken_back 148 (λ i. get_or speech_order i 0) false (place_in speech_order) speech_place_below speech_at_place speech size
+unordered-ordered speech size =
+    ap (unordered false) (taken-listed false speech_order speech ∙ ap (λ (n : ℕ). listed n (λ i. get_or speech (get_or speech_order i 0) false)) speech_size)
+    ∙ taken_back 148 (λ i. get_or speech_order i 0) false (place_in speech_order) speech_place_below speech_at_place speech size
 
 -- ---- a frame of ordered bits
 module _ (order : List Bool) (size : length order ≡ 148) where

@@ -2,7 +2,7 @@
 -- Class two comes through whatever the protected bits become. Assumes nothing.
 use mathlib.Core.Path.{◌≡◌, refl, sym, ap, ap₂, ◌∙◌}
 use mathlib.Core.Logic.{inl, inr}
-use mathlib.Core.Bool.{Bool, true}
+use mathlib.Core.Bool.{Bool, true, false}
 use mathlib.Core.List.{List, [], reverse, reverse-reverse}
 use Prim.Native.Nat.{ℕ, ◌*◌}
 use native.Mathlib.Omega.{arith}
@@ -11,6 +11,7 @@ use borrow.Author.Tests.{eq-eqb}
 use Rattle.std.specs.Prelude.{Result, Ok, Err}
 use Rattle.bits.specs.Bits.{bit, byte, bits, bytes, disagreements}
 use Rattle.bits.specs.Numbers.{packed, unpacked}
+use Rattle.bits.specs.Places.{taken}
 use Rattle.bits.specs.Arguments.{Arguments, first_refusal}
 use Rattle.bits.specs.declared.Refusal.{Refusal}
 use Rattle.bits.specs.declared.Refusal.TheVariants as refusal
@@ -28,7 +29,7 @@ use Rattle.trellis.specs.Search.{Nearest, Ambiguous}
 use Rattle.trellis.specs.Words.{Terminated}
 use Rattle.trellis.proofs.Decided.{Decided, decided_alone}
 use Rattle.viterbi.specs.Hard.{weight, weight_from}
-use Rattle.speech.specs.Inputs.{bits_at, parity_places, parity_of, inputs_with, inputs_of, class_one_of}
+use Rattle.speech.specs.Inputs.{parity_places, parity_of, inputs_with, inputs_of, class_one_of}
 use Rattle.speech.specs.Classes.{placed, protected_of, class_two_of, is_class_two}
 use Rattle.speech.specs.Frames.{frame_of}
 use Rattle.speech.specs.declared.SpeechCandidate.{SpeechCandidate}
@@ -42,12 +43,12 @@ use Rattle.speech.proofs.Settling.{map-taken}
 use Rattle.speech.proofs.Statuses.{status_by}
 
 -- ---- class two
-placed-length : (protected two : List Bool) → length (placed protected two) ≡ 260
+placed-length : (protected two : List Bool) → length (placed false protected two) ≡ 260
 unfolding placed
 placed-length protected two = length-listed 260 _
 
-placed_through : (protected two : List Bool) → length two ≡ 82 → class_two_of (bytes (placed protected two)) ≡ bytes two
-placed_through protected two e = sym (map-taken byte is_class_two 0 (placed protected two)) ∙ ap bytes (placed_two protected two e)
+placed_through : (protected two : List Bool) → length two ≡ 82 → class_two_of (bytes (placed false protected two)) ≡ bytes two
+placed_through protected two e = sym (map-taken byte is_class_two 0 (placed false protected two)) ∙ ap bytes (placed_two protected two e)
 
 module _ (frame one₀ two₀ : List ℕ) {t : SpeechCandidate} where
   accepted_two : Decided (Terminated 89) (frame_weight frame) (λ w n. accepted_exit frame (reverse w) n) (refused_exit refusal.Ambiguous one₀ two₀) (decode_of frame one₀ two₀)
@@ -62,9 +63,9 @@ module _ (frame one₀ two₀ : List ℕ) {t : SpeechCandidate} where
 
 -- an accepted frame has its class two, whatever the protected bits are
 pub class_two_through : (protected two : List Bool) (one₀ two₀ : List ℕ) {t : SpeechCandidate} → length two ≡ 82
-    → (decode_call (bytes (placed protected two)) one₀ two₀).answer ≡ Ok t → (decode_call (bytes (placed protected two)) one₀ two₀).class_two ≡ bytes two
+    → (decode_call (bytes (placed false protected two)) one₀ two₀).answer ≡ Ok t → (decode_call (bytes (placed false protected two)) one₀ two₀).class_two ≡ bytes two
 class_two_through protected two one₀ two₀ size e =
-    let frame : List ℕ = bytes (placed protected two) in
+    let frame : List ℕ = bytes (placed false protected two) in
     call_two frame one₀ two₀ (decode_arguments frame (length one₀) (length two₀)) e ∙ placed_through protected two size
 
 -- ---- a frame's own word
@@ -79,7 +80,7 @@ module _ (one two : List Bool) (size : length one ≡ 77) where
   -- what the decoder weighs with
   received : protected_of (bits (bytes (frame_of one two))) ≡ sent
   unfolding frame_of sent
-  received = ap protected_of (bits-bytes (placed sent two)) ∙ placed_protected sent two sent_length
+  received = ap protected_of (bits-bytes (placed false sent two)) ∙ placed_protected sent two sent_length
 
   own : Terminated 89 (reverse (inputs_of one))
   unfolding inputs_of
@@ -113,7 +114,7 @@ module _ (one two : List Bool) (size : length one ≡ 77) where
   valid_own =
       let p : List Bool = parity_of (inputs_with one []) in
       status_by (inputs_with one p) true
-      (eq-eqb (packed (bits_at parity_places (inputs_with one p))) (packed (parity_of (inputs_with one p)))
+      (eq-eqb (packed (taken false parity_places (inputs_with one p))) (packed (parity_of (inputs_with one p)))
       (ap packed (inputs_parity one p (unpacked-length 7 _) ∙ ap (λ (u : List Bool). unpacked 7 (checksum7_of u)) (sym (inputs_significant one p)))))
 
   own_one : class_one_of (inputs_of one) ≡ one

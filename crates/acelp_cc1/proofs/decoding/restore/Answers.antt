@@ -3,7 +3,8 @@ use mathlib.Core.Path.{sym, ◌∙◌}
 use native.Mathlib.Omega.{arith}
 use lib.Seq.{length-take-le}
 use Rattle.std.proofs.lemmas.Slice.{between_to_end}
-use Rattle.acelp_cc1.proofs.Placing.{asks_gather, information_size, information_apart}
+use Rattle.bits.proofs.PlacesMoved.{asks_gather}
+use Rattle.acelp_cc1.proofs.Placing.{information_size, information_apart}
 use Rattle.acelp_cc1.proofs.Restoring.{restored}
 use Rattle.acelp_cc1.proofs.decoding.restore.Goals as goal
 
@@ -14,6 +15,6 @@ gather-requires c =
 
 pub returns : goal.returns
 returns c =
-    restored c.args.inputs.now c.requires.inputs c.args.frame.now c.args.sorted.now c.requires.frame.1 c.told-sorted
+    restored c.args.inputs.now c.args.frame.now c.args.sorted.now c.told-sorted
     c.information_positions.ensures c.gather.auto.to c.gather.ensures
     (c.copy_from_slice.ensures.after ∙ between_to_end c.args.frame.now 208 _ (omega arith))

@@ -1,23 +1,17 @@
 -- `speech::inputs::crc_status` meets its contract: the checksum decides the status. Assumes nothing.
-use mathlib.Core.Path.{refl, sym, ◌∙◌}
+use mathlib.Core.Path.{sym, subst}
 use native.Mathlib.Omega.{arith}
-use Rattle.bits.specs.Bits.{all_below}
+use Rattle.bits.specs.Places.{Below}
 use Rattle.speech.specs.Inputs.{parity_places}
-use Rattle.speech.proofs.InputBits.{gathered_binary}
+use Rattle.speech.proofs.InputBits.{parity_apart}
 use Rattle.speech.proofs.Statuses.{failed, valid}
 use Rattle.speech.proofs.inputs.crc_status.Goals as goal
 
-pub gather-requires : goal.gather-requires
-unfolding all_below
-gather-requires c = (omega arith, (c.requires, refl))
+pub pack_at-requires : goal.pack_at-requires
+pack_at-requires c = (omega arith, (omega arith, subst (Below parity_places) (sym c.told-inputs) parity_apart.low))
 
-pub pack-received-requires : goal.pack-received-requires
-pack-received-requires c = (omega arith, gathered_binary parity_places c.args.inputs.now c.gather.ensures)
+pub returns-then-pack_at-checksum : goal.returns-then-pack_at-checksum
+returns-then-pack_at-checksum c = sym (valid c.args.inputs.now c.pack_at.ensures c.checksum.ensures c.if-pack_at-checksum.true)
 
-pub returns-then-received-from : goal.returns-then-received-from
-returns-then-received-from c =
-    sym (valid c.args.inputs.now _ c.gather.ensures c.pack-received.ensures (c.from.ensures ∙ c.checksum.ensures) c.if-received-from.true)
-
-pub returns-else-received-from : goal.returns-else-received-from
-returns-else-received-from c =
-    sym (failed c.args.inputs.now _ c.gather.ensures c.pack-received.ensures (c.from.ensures ∙ c.checksum.ensures) c.if-received-from.false)
+pub returns-else-pack_at-checksum : goal.returns-else-pack_at-checksum
+returns-else-pack_at-checksum c = sym (failed c.args.inputs.now c.pack_at.ensures c.checksum.ensures c.if-pack_at-checksum.false)
