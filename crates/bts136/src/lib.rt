@@ -1,5 +1,5 @@
 // The static library for Rust and C. Each function hands a call on to a flat function of a crate below, whose contract it repeats: a wrong program of one
-// codec's flat functions then checks that codec's alone.
+// codec's flat functions then checks that codec's alone. C has no enum and no type parameter of ours, so each format, mode, half and code has calls of its own.
 #![tactic(auto)]
 
 mod blocks;

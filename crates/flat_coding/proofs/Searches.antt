@@ -1,21 +1,18 @@
 -- What can be searched, and the answer of a search. Assumes nothing.
-use mathlib.Core.Path.{◌≡◌, refl, sym, ap, ◌∙◌}
+use mathlib.Core.Path.{◌≡◌, refl, ◌∙◌}
 use mathlib.Core.Bool.{Bool, true, false, cond}
 use mathlib.Core.List.{List}
-use Prim.Native.Nat.{ℕ, ◌*◌, ◌/◌, ◌%◌, ◌<◌, ◌≤◌}
+use Prim.Native.Nat.{ℕ, ◌*◌, ◌/◌, ◌%◌, ◌≤◌}
 use native.Mathlib.Omega.{arith}
 use lib.Dec.{eqb, ltb}
 use lib.ListN.{length}
-use borrow.Author.Tests.{ltb-true, ltb-false, eqb-true, eqb-false, lt-ltb, le-ltb, eq-eqb, ne_eqb}
+use borrow.Author.Tests.{ltb-true, ltb-false, eqb-true, eqb-false}
 use Rattle.bits.specs.Bits.{all_binary}
-use Rattle.bits.specs.Refusals.{number_of, expected_of, actual_of}
 use Rattle.bits.specs.Arguments.{Arguments, exact_of, binary_of}
-use Rattle.bits.specs.declared.Refusal.{Refusal}
 use Rattle.bits.proofs.Refusing.{never_both, passed_first, passed_exact, passed_binary}
 use Rattle.trellis.specs.declared.Outcome.{Outcome}
-use Rattle.std.specs.Prelude.{Ok, Err}
-use Rattle.flat_coding.specs.declared.bare_search.Search.{Search}
-use Rattle.flat_coding.specs.FlatSearch.{pair_arguments, search_arguments, no_search, SearchAnswer}
+use Rattle.std.specs.Prelude.{Ok}
+use Rattle.flat_coding.specs.FlatSearch.{pair_arguments, search_arguments, SearchAnswer}
 
 -- ---- Ok says that every test was passed
 apart : (n : ℕ) (x : Arguments) (t : Bool) → (t ≡ true → 260 ≡ n → ⊥) → cond t (exact_of 260 n) x ≡ Ok tt → (t ≡ false) × (x ≡ Ok tt)

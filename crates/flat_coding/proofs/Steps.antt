@@ -1,14 +1,16 @@
 -- What can be stepped. Assumes nothing.
-use mathlib.Core.Path.{◌≡◌, refl}
+use mathlib.Core.Path.{◌≡◌, refl, sym, ap, ◌∙◌}
 use mathlib.Core.Bool.{Bool, true, false, cond}
-use Prim.Native.Nat.{ℕ, ◌<◌, ◌≤◌}
+use mathlib.Core.List.{List, [], ◌∷◌, ◌++◌}
+use Prim.Native.Nat.{ℕ, ◌<◌, ◌≤◌, min}
 use native.Mathlib.Omega.{arith}
 use lib.Dec.{ltb}
+use lib.ListN.{length, take, drop, replicate}
 use borrow.Author.Tests.{ltb-false}
 use Rattle.std.specs.Prelude.{Ok, Err}
 use Rattle.bits.specs.Arguments.{Arguments}
 use Rattle.bits.specs.declared.Refusal.{Refusal}
-use Rattle.bits.specs.declared.Refusal.TheVariants.{Symbol, State}
+use Rattle.bits.specs.declared.Refusal.TheVariants.{State}
 use Rattle.bits.proofs.Refusing.{never_both}
 use Rattle.flat_coding.specs.Flat.{step_arguments}
 
@@ -17,11 +19,19 @@ passed : (t : Bool) (why : Refusal) (x : Arguments) → cond t (Err why) x ≡ O
 passed true why x e = never_both e refl
 passed false why x e = (refl, e)
 
-pub passed_step : (state input : ℕ) → step_arguments state input ≡ Ok tt → (state < 32) × (input < 2)
+pub passed_state : (state input : ℕ) → step_arguments state input ≡ Ok tt → state < 32
 unfolding step_arguments
-passed_step state input e =
-    let a = passed (ltb 31 state) State _ e in
-    let b = passed (ltb 1 input) Symbol (Ok tt) a.1 in
-    let h : state ≤ 31 = ltb-false 31 state a.0 in
-    let k : input ≤ 1 = ltb-false 1 input b.0 in
-    (omega arith, omega arith)
+passed_state state input e =
+    let h : state ≤ 31 = ltb-false 31 state (passed (ltb 31 state) State _ e).0 in
+    omega arith
+
+-- ---- up to four outputs are copied over zeros
+pub first_four : {n k : ℕ} (xs : List ℕ) → length xs ≡ n → k ≡ min n 4 → take k xs ++ drop k (replicate 4 0) ≡ take 4 (xs ++ replicate 4 0)
+first_four {n} {k} xs long kept = by xs (kept ∙ ap (λ (m : ℕ). min m 4) (sym long))
+  where
+    by : (l : List ℕ) → k ≡ min (length l) 4 → take k l ++ drop k (replicate 4 0) ≡ take 4 (l ++ replicate 4 0)
+    by [] e = rw e refl
+    by (a ∷ []) e = rw e refl
+    by (a ∷ b ∷ []) e = rw e refl
+    by (a ∷ b ∷ c ∷ []) e = rw e refl
+    by (a ∷ b ∷ c ∷ d ∷ l) e = let four : k ≡ 4 = omega (arith, e) in rw four refl

@@ -1,5 +1,5 @@
 -- What the flat functions answer: a number of document 01 and zeros, or 0 and the result.
-use Rattle.std.specs.Prelude.{◌≡◌, Bool, cond, List, ℕ, ◌-◌, ltb, length, take, drop, replicate, Result, Ok, Err}
+use Rattle.std.specs.Prelude.{◌≡◌, Bool, cond, List, ◌++◌, ℕ, ltb, take, replicate, Result, Ok, Err}
 use Rattle.bits.specs.Bits.{bit}
 use Rattle.bits.specs.Arguments.{Arguments}
 use Rattle.bits.specs.Refusals.{number_of}
@@ -13,11 +13,12 @@ use Rattle.flat_coding.specs.declared.Checksum.{Checksum}
 abbrev pub no_step : Refusal → Step
 no_step why = record { refusal = number_of why; next = 0; output = replicate 4 0 }
 
--- a step: the output bits first, then zeros
+-- a step: its outputs, then zeros, four in all
 pub record Taken (code : List (List Bool)) (memory : ℕ → List Bool) (state input : ℕ) (r : Step) : Type 0 where
   pub none : r.refusal ≡ 0
-  pub step : Stepped code memory state (bit input) r.next (take (length code) r.output)
-  pub rest : drop (length code) r.output ≡ replicate (4 - length code) 0
+  pub outputs : List ℕ
+  pub step : Stepped code memory state (bit input) r.next outputs
+  pub held : r.output ≡ take 4 (outputs ++ replicate 4 0)
 
 -- State where the state is above 31, then Symbol where the input is no bit
 unfoldable pub step_arguments : ℕ → ℕ → Arguments

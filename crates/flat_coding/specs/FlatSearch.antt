@@ -1,6 +1,5 @@
 -- What the bare searches answer: a number of document 01 and zeros, or 0 and the result.
 use Rattle.std.specs.Prelude.{◌≡◌, false, cond, List, ℕ, ◌/◌, ◌%◌, eqb, ltb, length, Ok, Err}
-use Rattle.bits.specs.Bits.{bit}
 use Rattle.bits.specs.Refusals.{number_of, expected_of, actual_of}
 use Rattle.bits.specs.Arguments.{Arguments, first_refusal, exact_of, binary_of}
 use Rattle.bits.specs.declared.Refusal.{Refusal}

@@ -11,9 +11,9 @@ use bits::Refusal;
 use bits::arguments::{binary, exact};
 use trellis::Outcome;
 
-// expected and actual are those of a refusal for length.
+// C reads it, which has no Result: beside a refusal metric and tie are 0. expected and actual are those of a refusal for length.
 #[repr(C)]
-#[derive(Clone, Copy, Debug, PartialEq, Eq)]
+#[derive(Clone, Copy, Debug, Default, PartialEq, Eq)]
 pub struct Search {
     pub refusal: u8,
     pub expected: usize,
@@ -31,8 +31,7 @@ impl From<Refusal> for Search {
             refusal: numbers.refusal,
             expected: numbers.expected,
             actual: numbers.actual,
-            metric: 0,
-            tie: false,
+            ..Search::default()
         }
     }
 }
@@ -42,11 +41,9 @@ impl From<Outcome> for Search {
 
     fn from(found: Outcome) -> Search {
         Search {
-            refusal: 0,
-            expected: 0,
-            actual: 0,
             metric: found.metric,
             tie: found.tie,
+            ..Search::default()
         }
     }
 }
@@ -83,7 +80,8 @@ pub fn terminated(coded: &[u8], word: &mut [u8]) -> Search
     }
 }
 
-// A nearest word over all 32 starting memories: the bare search of SACCH.
+// A nearest word over all 32 starting memories: the bare search of SACCH. (As `terminated` but for its search: with the search as a parameter neither
+// is shorter.)
 #[tactic(auto, using(crate::proofs::Searches::passed))]
 pub fn free(coded: &[u8], word: &mut [u8]) -> Search
     ensures { SearchAnswer (Found (OfLength (length word.old)) (free_weight (bits coded.now))) coded.now word.old word.new result }

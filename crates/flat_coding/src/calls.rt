@@ -4,16 +4,17 @@ ghost use Rattle.flat_coding.specs.Calls.{flat_wrote, not_written};
 
 use bits::Refusal;
 
-// expected and actual are those of a refusal for length.
+// C reads it, which has no Result: a number of document 01, or 0. expected and actual are those of a refusal for length, else 0.
 #[repr(C)]
-#[derive(Clone, Copy, Debug, PartialEq, Eq)]
+#[derive(Clone, Copy, Debug, Default, PartialEq, Eq)]
 pub struct Written {
     pub refusal: u8,
     pub expected: usize,
     pub actual: usize,
 }
 
-// A refusal as numbers. The flat records of calls that answer more take theirs from it.
+// A refusal as numbers. The flat records of calls that answer more take theirs from it. (They are flat in C, so each names the
+// three.)
 impl From<Refusal> for Written {
     ghost from_gives = { λ why r. r ≡ not_written why };
 
@@ -31,11 +32,7 @@ impl From<Result<(), Refusal>> for Written {
 
     fn from(answer: Result<(), Refusal>) -> Written {
         match answer {
-            Ok(()) => Written {
-                refusal: 0,
-                expected: 0,
-                actual: 0,
-            },
+            Ok(()) => Written::default(),
             Err(why) => Written::from(why),
         }
     }

@@ -4,14 +4,15 @@
 pub mod bare_search;
 pub mod calls;
 
-ghost use Rattle.std.specs.Prelude.{◌≡◌, ◌≤◌, ◌<◌};
+ghost use Rattle.std.specs.Prelude.{◌≡◌};
 ghost use Rattle.bits.specs.Bits.{bits};
 ghost use Rattle.checksums.specs.Checksums.{answer_for_bits, checksum7_of, checksum_from};
-ghost use Rattle.flat_coding.specs.Flat.{StepAnswer, Taken, flat_checksum, no_step, step_arguments};
+ghost use Rattle.flat_coding.specs.Flat.{StepAnswer, flat_checksum, no_step, step_arguments};
 
 use bits::Refusal;
 use coding::Code;
 
+// C reads it, which has no Result: beside a refusal all is 0.
 #[repr(C)]
 #[derive(Clone, Copy, Debug, PartialEq, Eq)]
 pub struct Step {
@@ -20,6 +21,7 @@ pub struct Step {
     pub output: [u8; 4],
 }
 
+// The same: beside a refusal value is 0.
 #[repr(C)]
 #[derive(Clone, Copy, Debug, PartialEq, Eq)]
 pub struct Checksum {
@@ -67,30 +69,22 @@ fn step_arguments(state: u8, input: u8) -> Result<(), Refusal>
     Ok(())
 }
 
-// A step that is taken: the output bits, then zeros.
-fn taken<C: Code<N>, const N: usize>(state: u8, input: u8) -> Step
-    requires { (N ≤ 4) × (state < 32) × (input < 2) }
-    ensures { Taken C.code C.memory state input result }
+// One step of a code: its outputs, then zeros. C has four places for them, the most that a code of IS-136 has.
+#[tactic(auto, using(crate::proofs::Steps::passed_state))]
+pub fn transition<C: Code<N>, const N: usize>(state: u8, input: u8) -> Step
+    ensures { StepAnswer C.code C.memory state input result }
 {
+    if let Err(why) = step_arguments(state, input) {
+        return Step::from(why);
+    }
     let step = C::transition(state, input);
+    let kept = N.min(4);
     let mut output = [0u8; 4];
-    output[..N].copy_from_slice(&step.output);
+    output[..kept].copy_from_slice(&step.output[..kept]);
     Step {
         refusal: 0,
         next: step.next,
         output,
-    }
-}
-
-// One step of a code.
-#[tactic(auto, using(crate::proofs::Steps::passed_step))]
-pub fn transition<C: Code<N>, const N: usize>(state: u8, input: u8) -> Step
-    requires { N ≤ 4 }
-    ensures { StepAnswer C.code C.memory state input result }
-{
-    match step_arguments(state, input) {
-        Ok(()) => taken::<C, N>(state, input),
-        Err(why) => Step::from(why),
     }
 }
 

@@ -16,7 +16,7 @@ use dcch::{BlockFormat, CrcMode};
 use flat_coding::Checksum;
 use flat_coding::calls::Written;
 
-// corrected is that of an accepted decoding; expected and actual are those of a refusal for length.
+// C reads it, which has no Result: corrected is that of an accepted decoding, else 0; expected and actual are those of a refusal for length.
 #[repr(C)]
 #[derive(Clone, Copy, Debug, PartialEq, Eq)]
 pub struct Block {
@@ -84,6 +84,7 @@ pub fn decode(
     Block::from(dcch::decode(format, block, dvcc, mode, information))
 }
 
+// (No one function with `decode`: see `dcch`.)
 pub fn decode_soft(
     format: BlockFormat,
     block: &[f64],

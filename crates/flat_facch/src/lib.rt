@@ -36,9 +36,9 @@ pub fn observe_half(slot: &[u8], half: WordHalf, coded: &mut [u8]) -> Written
     Written::from(facch::observe_half(slot, half, coded))
 }
 
-// What is beside the refusal is that of an accepted word; expected and actual are those of a refusal for length.
+// C reads it, which has no Result: what is beside the refusal is that of an accepted word, else 0; expected and actual are those of a refusal for length.
 #[repr(C)]
-#[derive(Clone, Copy, Debug, PartialEq, Eq)]
+#[derive(Clone, Copy, Debug, Default, PartialEq, Eq)]
 pub struct Word {
     pub refusal: u8,
     pub expected: usize,
@@ -58,10 +58,7 @@ impl From<Refusal> for Word {
             refusal: numbers.refusal,
             expected: numbers.expected,
             actual: numbers.actual,
-            continuation: false,
-            message: 0,
-            corrected: 0,
-            observed: 0,
+            ..Word::default()
         }
     }
 }
@@ -72,13 +69,11 @@ impl From<Result<FacchWord, Refusal>> for Word {
     fn from(answer: Result<FacchWord, Refusal>) -> Word {
         match answer {
             Ok(word) => Word {
-                refusal: 0,
-                expected: 0,
-                actual: 0,
                 continuation: word.continuation,
                 message: word.message,
                 corrected: word.corrected,
                 observed: word.observed,
+                ..Word::default()
             },
             Err(why) => Word::from(why),
         }

@@ -5,7 +5,7 @@ ghost use Rattle.flat_sacch.specs.Flat.{flat_pushed_row};
 
 use sacch::SacchDeinterleaver;
 
-// An answer of a push and the deinterleaver after it. Complete says that the field completed a row; else row is 0.
+// An answer of a push and the deinterleaver after it. Complete says that the field completed a row; else row is 0. C reads the flag.
 #[repr(C)]
 #[derive(Clone, Copy, Debug, PartialEq, Eq)]
 pub struct Row {

@@ -15,7 +15,7 @@ use flat_coding::calls::Written;
 pub use receiver::{Pushed, Receiver, discontinuity, new_receiver, push, push_by_value};
 use sacch::{SacchEncoder, SacchWord};
 
-// One field, 0 where the call is refused; then the encoder is the one that was given.
+// One field, 0 where the call is refused; then the encoder is the one that was given. C reads it, which has no Result: so with all records here.
 #[repr(C)]
 #[derive(Clone, Copy, Debug, PartialEq, Eq)]
 pub struct Field {
@@ -24,6 +24,7 @@ pub struct Field {
     pub field: u16,
 }
 
+// The fields of a word, zeros where the call is refused.
 #[repr(C)]
 #[derive(Clone, Copy, Debug, PartialEq, Eq)]
 pub struct Fields {
@@ -34,7 +35,7 @@ pub struct Fields {
 
 // What is beside the refusal is that of an accepted word; expected and actual are those of a refusal for length.
 #[repr(C)]
-#[derive(Clone, Copy, Debug, PartialEq, Eq)]
+#[derive(Clone, Copy, Debug, Default, PartialEq, Eq)]
 pub struct Word {
     pub refusal: u8,
     pub expected: usize,
@@ -54,10 +55,7 @@ impl From<Refusal> for Word {
             refusal: numbers.refusal,
             expected: numbers.expected,
             actual: numbers.actual,
-            continuation: false,
-            message: 0,
-            corrected: 0,
-            ending: 0,
+            ..Word::default()
         }
     }
 }
@@ -68,13 +66,11 @@ impl From<Result<SacchWord, Refusal>> for Word {
     fn from(answer: Result<SacchWord, Refusal>) -> Word {
         match answer {
             Ok(word) => Word {
-                refusal: 0,
-                expected: 0,
-                actual: 0,
                 continuation: word.continuation,
                 message: word.message,
                 corrected: word.corrected,
                 ending: word.ending,
+                ..Word::default()
             },
             Err(why) => Word::from(why),
         }

@@ -9,6 +9,7 @@ use sacch::{ReceiveOutcome, SacchDeinterleaver, SacchReceiver, SacchWord};
 // No phase is locked.
 const UNLOCKED: u8 = 255;
 
+// A receiver as C holds it: flat, with a byte for the lock.
 #[repr(C)]
 #[derive(Clone, Copy, Debug, PartialEq, Eq)]
 pub struct Receiver {
@@ -23,7 +24,7 @@ pub struct Receiver {
     pub lock: u8,
 }
 
-// An answer of a push and the receiver after it: kind 0 is Pending, 1 a word, 2 a rejection, 3 a refusal. Refusal is the number of the last two.
+// An answer of a push and the receiver after it: kind 0 is Pending, 1 a word, 2 a rejection, 3 a refusal. Refusal is the number of the last two. C reads the kind.
 #[repr(C)]
 #[derive(Clone, Copy, Debug, PartialEq, Eq)]
 pub struct Pushed {
@@ -36,6 +37,7 @@ pub struct Pushed {
     pub receiver: Receiver,
 }
 
+// (No `From`: neither type is of this crate.)
 #[tactic(auto, unfolding(crate::specs::Flat::lock_of))]
 fn locked_phase(lock: u8) -> Option<u8>
     ensures { result ≡ lock_of lock }
@@ -119,6 +121,7 @@ pub fn discontinuity(receiver: Receiver) -> Receiver
     Receiver::from(lent)
 }
 
+// The zeros by hand: a default of the record would hold a receiver locked at phase 0.
 fn without_word(kind: u8, refusal: u8, receiver: Receiver) -> Pushed
     ensures { result ≡ no_word_pushed kind refusal receiver }
 {
@@ -133,6 +136,7 @@ fn without_word(kind: u8, refusal: u8, receiver: Receiver) -> Pushed
     }
 }
 
+// (No `From`, here and below: the receiver goes with the answer.)
 fn with_word(word: SacchWord, receiver: Receiver) -> Pushed
     ensures { result ≡ word_pushed word receiver }
 {

@@ -15,9 +15,9 @@ use bits::Refusal;
 use flat_coding::calls::Written;
 use speech::{CrcStatus, SpeechCandidate};
 
-// valid and corrected are those of an accepted frame; expected and actual those of a refusal for length.
+// valid and corrected are those of an accepted frame; expected and actual those of a refusal for length. C has no enum that carries them.
 #[repr(C)]
-#[derive(Clone, Copy, Debug, PartialEq, Eq)]
+#[derive(Clone, Copy, Debug, Default, PartialEq, Eq)]
 pub struct Frame {
     pub refusal: u8,
     pub expected: usize,
@@ -35,8 +35,7 @@ impl From<Refusal> for Frame {
             refusal: numbers.refusal,
             expected: numbers.expected,
             actual: numbers.actual,
-            valid: false,
-            corrected: 0,
+            ..Frame::default()
         }
     }
 }
@@ -47,11 +46,9 @@ impl From<Result<SpeechCandidate, Refusal>> for Frame {
     fn from(answer: Result<SpeechCandidate, Refusal>) -> Frame {
         match answer {
             Ok(candidate) => Frame {
-                refusal: 0,
-                expected: 0,
-                actual: 0,
                 valid: matches!(candidate.crc, CrcStatus::Valid),
                 corrected: candidate.corrected,
+                ..Frame::default()
             },
             Err(why) => Frame::from(why),
         }
@@ -64,11 +61,9 @@ impl From<Result<DecodedFrame, Refusal>> for Frame {
     fn from(answer: Result<DecodedFrame, Refusal>) -> Frame {
         match answer {
             Ok(frame) => Frame {
-                refusal: 0,
-                expected: 0,
-                actual: 0,
                 valid: frame.crc_valid,
                 corrected: frame.corrected,
+                ..Frame::default()
             },
             Err(why) => Frame::from(why),
         }
