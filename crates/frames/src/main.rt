@@ -13,7 +13,7 @@ use session::Session;
 use text::buffer::Buffer;
 
 // One read, and the write of its answers.
-#[derive(Clone, Copy)]
+#[derive(Clone, Copy, Debug, PartialEq, Eq)]
 struct Turn {
     got: Got,
     sent: Sent,
@@ -23,7 +23,7 @@ struct Turn {
 }
 
 // All that the program did.
-#[derive(Clone, Copy)]
+#[derive(Clone, Copy, Debug, PartialEq, Eq)]
 struct Outcome {
     last: Turn,
     totals: Option<Sent>,
@@ -32,7 +32,7 @@ struct Outcome {
     left: Option<Sent>,
 }
 
-// What a run holds from one turn to the next.
+// What a run holds from one turn to the next. (One of a run, and neither compared nor printed.)
 #[derive(Drop)]
 struct Run {
     streams: Streams,
@@ -61,7 +61,7 @@ impl Run {
         }
     }
 
-    // Turns until there is no more to read. Nothing says that an input ends, so they are counted.
+    // Turns until there is no more to read. Nothing says that an input ends, so they are counted: a `while` has to have an end.
     fn listen(&mut self) -> Turn
         requires { self.old.session ≡ at_start }
         ensures { Listened result self.new.session }

@@ -14,6 +14,7 @@ pub enum Stream {
     Messages,
 }
 
+// The three streams of a process. (One of a run, and neither compared nor printed.)
 #[derive(Clone, Copy)]
 pub struct Streams {
     input: Stdin,
@@ -22,21 +23,21 @@ pub struct Streams {
 }
 
 // What a read from a stream answered: how many bytes it put at the start of the buffer, or that it failed.
-#[derive(Clone, Copy)]
+#[derive(Clone, Copy, Debug, PartialEq, Eq)]
 pub struct Got {
     from: Stream,
     read: Option<usize>,
 }
 
 // What a stream was handed: so many bytes of a text, from the first on; and whether it took all of them.
-#[derive(Clone, Copy)]
+#[derive(Clone, Copy, Debug, PartialEq, Eq)]
 pub struct Sent {
     to: Stream,
     bytes: usize,
     whole: bool,
 }
 
-// What comes after a read and the write of its answers.
+// What comes after a read and the write of its answers. (An enum of its own: std's `ControlFlow` would name neither way to end.)
 #[derive(Clone, Copy, Debug, PartialEq, Eq)]
 pub enum Next {
     Read,
@@ -82,7 +83,7 @@ impl Streams {
         }
     }
 
-    // Writes all of the text to a stream, and answers whether that was done; it fails where the stream is not one that is written.
+    // Writes all of the text to a stream, and answers whether that was done; it fails where the stream is not one that is written. (No Result: the cause of a failure is told nowhere.)
     fn write_to(self, to: Stream, text: &[u8]) -> bool {
         let mut output = self.output;
         let mut messages = self.messages;

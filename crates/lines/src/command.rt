@@ -29,8 +29,8 @@ fn sacch(line: &[u8]) -> Option<Command>
         return None;
     }
     Some(Command::Sacch {
-        dvcc: two(line[2], line[3]) as u8,
-        field: three(line[5], line[6], line[7]) as u16,
+        dvcc: u8::try_from(two(line[2], line[3])).ok()?,
+        field: u16::try_from(three(line[5], line[6], line[7])).ok()?,
     })
 }
 
@@ -38,11 +38,7 @@ fn sacch(line: &[u8]) -> Option<Command>
 fn discontinuity(line: &[u8]) -> Option<Command>
     ensures { result ≡ cond (shaped discontinuity_shape line.now) (Some Command.Discontinuity) None }
 {
-    if has_shape(b"D", line) {
-        Some(Command::Discontinuity)
-    } else {
-        None
-    }
+    has_shape(b"D", line).then_some(Command::Discontinuity)
 }
 
 #[tactic(auto, using(crate::proofs::Forms::facch_line), unfolding(crate::specs::Commands::facch_shape))]
@@ -55,7 +51,7 @@ fn facch(line: &[u8]) -> Option<Command>
         return None;
     }
     Some(Command::Facch {
-        dvcc: two(line[2], line[3]) as u8,
+        dvcc: u8::try_from(two(line[2], line[3])).ok()?,
     })
 }
 

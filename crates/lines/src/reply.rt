@@ -7,7 +7,7 @@ ghost use Rattle.lines.specs.Printing.{code_text, refusal_text, reply_text, tota
 use bits::Refusal;
 use text::buffer::Buffer;
 
-// What a line is answered.
+// What a line is answered. (The words' fields and no word of a codec: a line's text needs none.)
 #[derive(Clone, Copy, Debug, PartialEq, Eq)]
 pub enum Reply {
     Nothing,

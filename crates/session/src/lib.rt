@@ -17,7 +17,8 @@ use std::marker::Model;
 use text::buffer::Buffer;
 use text::line_end;
 
-// All that goes from one piece of the input to the next. A clause sees it as a scan of the input so far (specs/Scanning.antt).
+// All that goes from one piece of the input to the next. A clause sees it as a scan of the input so far (specs/Scanning.antt). (One of a run,
+// and neither compared nor printed.)
 #[derive(Drop)]
 pub struct Session {
     // How many lines may still be read.
@@ -83,7 +84,7 @@ impl Session {
             put_reply(page, replied.reply);
             let more = added(replied.reply);
             self.tally += more;
-            self.counts[usize::from(replied.dvcc)] += more.words as u32;
+            self.counts[usize::from(replied.dvcc)] += more.words;
             self.left -= 1;
         }
         self.line.clear();
@@ -94,9 +95,11 @@ impl Session {
         requires { 25 * length piece.now ≤ N }
         ensures session { self.new ≡ seen self.old piece.now }
         ensures text { page.new ≡ bytes_said self.old piece.now }
+        ensures room { length page.new ≤ 25 * length piece.now }
     {
         page.clear();
         let mut from = 0;
+        // Line by line, what follows the last LF apart: in a loop over `split` or `split_inclusive` each turn would ask which of the two it has.
         while let Some(end) = line_end(piece, from) {
             self.keep(&piece[from..end]);
             self.end_line(page);

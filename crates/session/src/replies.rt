@@ -14,11 +14,12 @@ use sacch::{ReceiveOutcome, SacchReceiver};
 // What a line is answered, and the colour code on it.
 #[derive(Clone, Copy, Debug, PartialEq, Eq)]
 pub struct LineReply {
+    // 0 where the line has none: no word is counted then, so that an Option would be a case without a use.
     pub dvcc: u8,
     pub reply: Reply,
 }
 
-// `P`, `R n` or `W c m k e`.
+// `P`, `R n` or `W c m k e`. (No `From`, here and below: a line's answer and a call's answer are both of other crates.)
 #[tactic(auto, unfolding(crate::specs::Replies::sacch_reply))]
 fn sacch_reply(outcome: Result<ReceiveOutcome, Refusal>) -> Reply
     ensures { result ≡ sacch_reply outcome }

@@ -9,7 +9,7 @@ use text::buffer::Buffer;
 // Accepted words, their corrected bits and their coded bits.
 #[derive(Clone, Copy, Debug, Default, PartialEq, Eq)]
 pub struct Tally {
-    pub words: u64,
+    pub words: u32,
     pub corrected: u64,
     pub coded: u64,
 }
@@ -18,7 +18,7 @@ impl AddAssign for Tally {
     ghost use Rattle.std.specs.Prelude.{◌≡◌, ◌+◌, ◌^◌, ◌<◌};
     ghost use Rattle.session.specs.Totals.{summed};
 
-    ghost can_add_assign = { λ a b. (a.words + b.words < 2 ^ 64) × (a.corrected + b.corrected < 2 ^ 64) × (a.coded + b.coded < 2 ^ 64) };
+    ghost can_add_assign = { λ a b. (a.words + b.words < 2 ^ 32) × (a.corrected + b.corrected < 2 ^ 64) × (a.coded + b.coded < 2 ^ 64) };
 
     ghost add_assign_gives = { λ a b c. c ≡ summed a b };
 
@@ -81,8 +81,10 @@ fn put_line<const N: usize>(dvcc: u8, words: u32, page: &mut Buffer<N>)
 // The lines of all codes with words, by code ascending.
 fn put_codes<const N: usize>(counts: &[u32; 256], page: &mut Buffer<N>)
     requires { length page.old + 6656 ≤ N }
-    ensures { page.new ≡ page.old ++ code_lines (count_of counts.now) }
+    ensures text { page.new ≡ page.old ++ code_lines (count_of counts.now) }
+    ensures upper_bound { length page.new ≤ length page.old + 6656 }
 {
+    // The place of a count is its code: `as`, since std has no `From<usize> for u8`, and of 256 places none is lost.
     for (dvcc, words) in counts.iter().enumerate() {
         put_line(dvcc as u8, *words, page);
     }
@@ -92,8 +94,9 @@ fn put_codes<const N: usize>(counts: &[u32; 256], page: &mut Buffer<N>)
 #[tactic(auto, unfolding(crate::specs::Totals::closing, crate::specs::Totals::total_line))]
 pub fn put_closing<const N: usize>(tally: Tally, counts: &[u32; 256], page: &mut Buffer<N>)
     requires { (tally.corrected ≤ 65535000000) × (length page.old + 6700 ≤ N) }
-    ensures { page.new ≡ page.old ++ closing tally counts.now }
+    ensures text { page.new ≡ page.old ++ closing tally counts.now }
+    ensures upper_bound { length page.new ≤ length page.old + 6700 }
 {
-    put_total(page, tally.words, rate(tally));
+    put_total(page, u64::from(tally.words), rate(tally));
     put_codes(counts, page);
 }

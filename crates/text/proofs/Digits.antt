@@ -1,15 +1,14 @@
 -- Digits written from the last to the first, and counted. Assumes nothing.
 use mathlib.Core.Path.{◌≡◌, refl, sym, ap, ap₂, subst, ◌∙◌}
-use mathlib.Core.Bool.{Bool, true, false, cond}
 use mathlib.Core.List.{List, [], ◌∷◌, ◌++◌, append-nil, append_assoc}
-use Prim.Native.Nat.{ℕ, zero, suc, ◌+◌, ◌-◌, ◌/◌, ◌%◌, ◌≤◌, ◌<◌}
-use native.Mathlib.Nat.{not-suc-le-zero, add-suc, add-zero}
+use Prim.Native.Nat.{ℕ, zero, suc, ◌+◌, ◌-◌, ◌*◌, ◌/◌, ◌%◌, ◌^◌, ◌≤◌, ◌<◌}
+use native.Mathlib.Nat.{not-suc-le-zero, add-suc}
 use native.Mathlib.Numerals.{sub-one, add-one}
 use native.Mathlib.Omega.{arith}
 use borrow.Author.Tests.{lt-ltb, le-ltb}
-use lib.Dec.{ltb}
 use lib.ListN.{length, take, drop, set, length-append, length-set}
 use lib.Seq.{length-take-le, take-add}
+use Rattle.std.proofs.Math.Nat.{one-le-pow, pow-succ'}
 use Rattle.std.proofs.lemmas.List.{take-set-le}
 use Rattle.bits.proofs.Filled.{drop-set_here}
 use Rattle.text.specs.Numerals.{glyph, digits, places_in}
@@ -74,52 +73,21 @@ length_digits b (suc k) n = length-append (digits b k (n / b)) (glyph (n % b) �
 pub shown : (bytes : List ℕ) {seen : List ℕ} {n size : ℕ} → take n bytes ≡ seen → (n ≤ size) × (length bytes ≡ size) → length seen ≡ n
 shown bytes {seen} {n} e h = ap length (sym e) ∙ length-take-le n bytes (omega arith)
 
--- ---- the loop that counts decimal digits: k are counted, and `rest` is left
-pub record Counted (n k rest : ℕ) : Type 0 where
-  pub some : 1 ≤ k
-  pub most : k ≤ 20
-  pub total : places_in 20 n ≡ places_in (21 - k) rest + (k - 1)
-
-pub counted_none : (n : ℕ) → Counted n 1 n
-counted_none n = record { some = omega arith; most = omega arith; total = sym (add-zero (places_in 20 n)) }
-
-fuel : (k : ℕ) → k ≤ 20 → 21 - k ≡ suc (20 - k)
-fuel k h = omega arith
-
-places_last : (f rest : ℕ) → rest < 10 → places_in (suc f) rest ≡ 1
+-- ---- how many decimal digits a number has
+pub places_zero : (n : ℕ) → n ≡ 0 → 1 ≡ places_in 20 n
 unfolding places_in
-places_last f rest h = rw (lt-ltb rest 10 h)
+places_zero n e = rw e refl
 
-places_more : (f rest : ℕ) → 10 ≤ rest → places_in (suc f) rest ≡ places_in f (rest / 10) + 1
+-- from 10^k to below 10^(k+1) it has k + 1 of them
+places_more : (f k n : ℕ) → k < f → 10 ^ k ≤ n → n < 10 * 10 ^ k → k + 1 ≡ places_in f n
 unfolding places_in
-places_more f rest h = rw (le-ltb rest 10 h)
+places_more zero k n h low high = absurd (not-suc-le-zero h)
+places_more (suc f) zero n h low high = let small : n < 10 = high in rw (lt-ltb n 10 small) refl
+places_more (suc f) (suc k) n h low high =
+    let e : 10 ^ suc k ≡ 10 * 10 ^ k = pow-succ' 10 k in
+    let some : 1 ≤ 10 ^ k = one-le-pow k 10 (omega arith) in
+    let large : 10 ≤ n = omega (arith, e, some, low) in
+    rw (le-ltb n 10 large) (ap (λ (m : ℕ). m + 1) (sym (add-one k) ∙ places_more f k (n / 10) (omega arith) (omega (arith, e, low)) (omega (arith, e, high))))
 
-places_one : (rest : ℕ) → places_in 1 rest ≡ 1
-unfolding places_in
-places_one rest = by (ltb rest 10)
-  where
-    by : (t : Bool) → cond t 1 (0 + 1) ≡ 1
-    by true = refl
-    by false = refl
-
-pub counted_last : (n k rest : ℕ) → rest < 10 → Counted n k rest → k ≡ places_in 20 n
-counted_last n k rest h p =
-    let e : places_in (21 - k) rest ≡ 1 = ap (λ (f : ℕ). places_in f rest) (fuel k p.most) ∙ places_last (20 - k) rest h in
-    omega (arith, p.total, p.some)
-
-pub counted_end : (n k rest : ℕ) → 20 ≤ k → Counted n k rest → k ≡ places_in 20 n
-counted_end n k rest h p =
-    let e : places_in (21 - k) rest ≡ 1 = ap (λ (f : ℕ). places_in f rest) (one p.most) ∙ places_one rest in
-    omega (arith, p.total, p.some)
-  where
-    one : k ≤ 20 → 21 - k ≡ 1
-    one m = omega arith
-
-pub counted_more : (n k rest : ℕ) → 10 ≤ rest → k < 20 → Counted n k rest → Counted n (k + 1) (rest / 10)
-counted_more n k rest h room p =
-    let e : places_in (21 - k) rest ≡ places_in (20 - k) (rest / 10) + 1 = ap (λ (f : ℕ). places_in f rest) (fuel k p.most) ∙ places_more (20 - k) rest h in
-    let g : places_in (21 - (k + 1)) (rest / 10) ≡ places_in (20 - k) (rest / 10) = ap (λ (f : ℕ). places_in f (rest / 10)) (less p.most) in
-    record { some = omega arith; most = omega arith; total = omega (arith, p.total, p.some) }
-  where
-    less : k ≤ 20 → 21 - (k + 1) ≡ 20 - k
-    less m = omega arith
+pub places_by_power : (k n : ℕ) → k < 20 → 10 ^ k ≤ n → n < 10 * 10 ^ k → k + 1 ≡ places_in 20 n
+places_by_power k n = places_more 20 k n

@@ -1,8 +1,11 @@
 // Bytes written one after the other into an array of fixed size, so that no heap is needed. A clause sees what was written, as a list.
+// Each function asks for the room that it takes, as no two write as much: a push that could fail would be tested at each byte.
+// (The kit's `ArrayVec` is of a crate besides std, of which none is used here, and its `clear` blanks what was written.)
 ghost use Rattle.std.specs.Prelude.{◌≡◌, ◌==◌, ◌+◌, ◌≤◌, ◌<◌, List, [], ◌∷◌, ◌++◌, ℕ, length, take};
 
 use std::marker::Model;
 
+// No `PartialEq`: two that were written alike may differ behind it.
 #[derive(Drop)]
 pub struct Buffer<const N: usize> {
     pub(crate) bytes: [u8; N],

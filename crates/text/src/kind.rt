@@ -24,13 +24,11 @@ fn is_blank(line: &[u8]) -> bool
 pub fn line_kind(line: &[u8]) -> LineKind
     ensures { result ≡ kind_of line.now }
 {
-    let long = 136 < line.len();
-    let blank = is_blank(line);
-    if long {
-        return LineKind::TooLong;
+    if 136 < line.len() {
+        LineKind::TooLong
+    } else if is_blank(line) {
+        LineKind::Blank
+    } else {
+        LineKind::Filled
     }
-    if blank {
-        return LineKind::Blank;
-    }
-    LineKind::Filled
 }

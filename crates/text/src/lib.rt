@@ -40,7 +40,7 @@ pub fn has_shape(shape: &[u8], text: &[u8]) -> bool
     shape.len() == text.len() && shape.iter().zip(text).all(|(p, b)| stands_at(*p, *b))
 }
 
-// The value of a digit, 16 of any other byte.
+// The value of a digit, 16 of any other byte: `two` and `three` promise a number of any bytes.
 fn value(b: u8) -> usize
     ensures { (result ≡ digit_of b) × (result ≤ 16) }
 {

@@ -1,9 +1,10 @@
-// Numbers as text, written into a buffer.
+// Numbers as text, written into a buffer. (Not by `write!`: it answers an error, which a page with room for the text never has.)
 ghost use Rattle.std.specs.Prelude.{◌≡◌, ◌++◌, ◌+◌, ◌≤◌, ◌<◌, length};
 ghost use Rattle.text.specs.Numerals.{decimal as decimal_text, digits, glyph as digit_code, hexadecimal, places_in};
 
 use crate::buffer::Buffer;
 
+// A digit's character. (`as`: d is below 16, and `u8::try_from` would answer an error that never comes.)
 #[tactic(auto, unfolding(crate::specs::Numerals::glyph))]
 fn glyph(d: u64) -> u8
     requires { d < 16 }
@@ -16,33 +17,31 @@ fn glyph(d: u64) -> u8
     }
 }
 
-// How many decimal digits n has.
+// How many decimal digits n has. (`as`: std has no `From<u32>` for usize.)
+#[tactic(auto, using(crate::proofs::Digits::places_zero, crate::proofs::Digits::places_by_power))]
 fn decimal_places(n: u64) -> usize
     ensures { (result ≡ places_in 20 n) × (result ≤ 20) }
 {
-    let mut rest = n;
-    for k in 1..20 {
-        if rest < 10 {
-            return k;
-        }
-        rest /= 10;
+    match n.checked_ilog10() {
+        Some(k) => k as usize + 1,
+        None => 1,
     }
-    20
 }
 
 impl<const N: usize> Buffer<N> {
-    // The last k digits of n.
-    fn put_digits(&mut self, base: u64, k: usize, n: u64)
-        requires base { (0 < base) × (base ≤ 16) }
+    // The last k digits of n. The base is a constant, so that no digit costs a division. (By index: after `iter_mut().rev()` nothing is known of
+    // what was written.)
+    fn put_digits<const BASE: u64>(&mut self, k: usize, n: u64)
+        requires base { (0 < BASE) × (BASE ≤ 16) }
         requires room { length self.old + k ≤ N }
-        ensures text { self.new ≡ self.old ++ digits base k n }
+        ensures text { self.new ≡ self.old ++ digits BASE k n }
         ensures len { length self.new ≡ length self.old + k }
     {
         let start = self.len;
         let mut rest = n;
         for i in (0..k).rev() {
-            self.bytes[start + i] = glyph(rest % base);
-            rest /= base;
+            self.bytes[start + i] = glyph(rest % BASE);
+            rest /= BASE;
         }
         self.len = start + k;
     }
@@ -55,7 +54,7 @@ impl<const N: usize> Buffer<N> {
         ensures len { length self.new ≡ length self.old + k + 1 }
     {
         self.push(b' ');
-        self.put_digits(16, k, n);
+        self.put_digits::<16>(k, n);
     }
 
     // n in decimal.
@@ -66,6 +65,6 @@ impl<const N: usize> Buffer<N> {
         ensures upper_bound { length self.new ≤ length self.old + 20 }
     {
         let k = decimal_places(n);
-        self.put_digits(10, k, n);
+        self.put_digits::<10>(k, n);
     }
 }

@@ -1,4 +1,5 @@
 -- `session::Session::feed` meets its contract: the bytes passed are fed. Assumes nothing.
+use native.Mathlib.Omega.{arith}
 use Rattle.session.proofs.Stepped.{feeding_none, feeding_more, feeding_done, feeding_said}
 use Rattle.session.proofs.Session.feed.Goals as goal
 
@@ -14,4 +15,5 @@ loop-end-preserved g c =
 pub returns : goal.returns
 returns g c =
     let rest = c.in_default.ensures.end in
-    record { session = feeding_done c.loop-end.invariant rest c.keep-2.ensures; text = feeding_said c.loop-end.invariant rest }
+    let fed = c.loop-end.invariant in
+    record { session = feeding_done fed rest c.keep-2.ensures; text = feeding_said fed rest; room = omega (arith, fed.low, fed.room) }

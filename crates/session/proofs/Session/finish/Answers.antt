@@ -20,5 +20,5 @@ returns g c =
     ] in
     record {
       session = last.state;
-      text = finished last (c.put_closing.ensures ∙ ap (λ (s : Scan). c.if-not-empty.page ++ closing s.state.tally s.state.counts) c.self-2.view_is);
+      text = finished last (c.put_closing.ensures.text ∙ ap (λ (s : Scan). c.if-not-empty.page ++ closing s.state.tally s.state.counts) c.self-2.view_is);
     }

@@ -11,4 +11,4 @@ pub loop-dvcc-preserved : goal.loop-dvcc-preserved
 loop-dvcc-preserved g c = listing_more c.loop-dvcc.invariant refl c.put_line.ensures.text c.put_line.ensures.upper_bound
 
 pub returns : goal.returns
-returns g c = listing_done c.loop-dvcc.invariant (omega arith)
+returns g c = let listed = c.loop-dvcc.invariant in record { text = listing_done listed (omega arith); upper_bound = omega (arith, listed.room) }

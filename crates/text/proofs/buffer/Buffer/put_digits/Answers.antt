@@ -18,8 +18,8 @@ loop-i-preserved g c =
 pub returns : goal.returns
 returns g c =
     let a = c.args in
-    let text = left_none (omega arith) c.loop-i.invariant ∙ ap (λ l. l ++ digits a.base a.k a.n) c.self.view_is in
+    let text = left_none (omega arith) c.loop-i.invariant ∙ ap (λ l. l ++ digits g.row.BASE a.k a.n) c.self.view_is in
     record {
       text = text;
-      len = ap length text ∙ length-append a.self.now (digits a.base a.k a.n) ∙ ap (λ m. length a.self.now + m) (length_digits a.base a.k a.n);
+      len = ap length text ∙ length-append a.self.now (digits g.row.BASE a.k a.n) ∙ ap (λ m. length a.self.now + m) (length_digits g.row.BASE a.k a.n);
     }

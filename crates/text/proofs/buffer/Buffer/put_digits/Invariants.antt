@@ -5,4 +5,4 @@ use Rattle.text.proofs.buffer.Buffer.put_digits.Given as goal
 
 abbrev pub invariant-loop-i : goal.invariant-loop-i
 invariant-loop-i g l =
-    Left l.base l.k l.n g.row.N l.start (take l.start l.initial.self-inside.bytes) l.i l.rest l.self-inside.bytes
+    Left g.row.BASE l.k l.n g.row.N l.start (take l.start l.initial.self-inside.bytes) l.i l.rest l.self-inside.bytes
