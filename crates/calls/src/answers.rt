@@ -8,6 +8,7 @@ use std::fmt;
 
 #[derive(Clone, Copy, Debug, PartialEq, Eq)]
 pub enum Answer {
+    // Numbers, beside `Rejected`: the flat functions that `replay` calls answer them.
     Refused {
         number: u8,
         expected: usize,

@@ -3,7 +3,7 @@ ghost use Rattle.std.specs.Prelude.{◌≡◌};
 ghost use Rattle.calls.specs.declared.errors.LineError.TheVariants.{NoCall, OutOfMemory};
 
 use std::alloc::{AllocError, AllocFailed};
-use std::num::{ParseIntError, TryFromIntError};
+use std::num::TryFromIntError;
 
 #[derive(Clone, Copy, Debug, PartialEq, Eq)]
 pub enum LineError {
@@ -25,15 +25,6 @@ impl<T: Drop> From<AllocFailed<T>> for LineError {
 
     fn from(error: AllocFailed<T>) -> LineError {
         LineError::from(AllocError::from(error))
-    }
-}
-
-// A word that is no number.
-impl From<ParseIntError> for LineError {
-    ghost from_gives = { λ _ error. error ≡ NoCall };
-
-    fn from(_error: ParseIntError) -> LineError {
-        LineError::NoCall
     }
 }
 

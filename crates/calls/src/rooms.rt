@@ -8,7 +8,7 @@ use std::fmt;
 // What a room holds before a call: no bit, so that a byte that was not written is seen.
 pub const UNTOUCHED: u8 = 9;
 
-#[derive(Debug, Drop)]
+#[derive(Debug, Drop, PartialEq, Eq)]
 pub struct Room {
     pub bytes: Vec<u8>,
 }
@@ -35,7 +35,8 @@ impl fmt::Display for Room {
             return write!(f, "untouched");
         }
         for byte in &self.bytes {
-            write!(f, "{byte}")?;
+            let digit = char::from_digit(u32::from(*byte), 10).unwrap_or('?');
+            write!(f, "{digit}")?;
         }
         Ok(())
     }

@@ -2,10 +2,12 @@
 use calls::answers::Answer;
 use calls::arguments::Arguments;
 use calls::errors::LineError;
+use calls::numerals::low_byte;
 use dcch::{decode, decode_soft, encode};
 use dcch_interleaver::BlockFormat;
 use std::alloc::{AllocError, Global};
 
+// (No `From`: neither type is of this crate.)
 fn format_of(number: u64) -> BlockFormat {
     match number {
         0 => BlockFormat::Forward,
@@ -50,7 +52,7 @@ pub fn run(alloc: Global, call: &str, arguments: &mut Arguments) -> Result<Answe
         return Err(LineError::NoCall);
     };
     let format = format_of(*format);
-    let dvcc = u8::try_from(*dvcc)?;
+    let dvcc = low_byte(*dvcc);
     let mode = flat_dcch::mode_of(*broadcast != 0);
     let room = room.bytes.as_mut_slice();
     let decoded = match call {

@@ -2,9 +2,11 @@
 use calls::answers::Answer;
 use calls::arguments::Arguments;
 use calls::errors::LineError;
+use calls::numerals::low_byte;
 use facch::{FacchWord, decode, decode_erased, encode};
 use facch_interleaver::{WordHalf, deinterleave, interleave, observe_half};
 
+// (No `From`: neither type is of this crate.)
 fn word(word: FacchWord) -> Answer {
     Answer::Word {
         continuation: word.continuation,
@@ -14,6 +16,7 @@ fn word(word: FacchWord) -> Answer {
     }
 }
 
+// (No `From`: neither type is of this crate.)
 fn half_of(number: u64) -> WordHalf {
     if number == 0 {
         WordHalf::Start
@@ -28,12 +31,12 @@ pub fn run(call: &str, arguments: &mut Arguments) -> Result<Answer, LineError> {
     let (numbers, inputs, rooms) = arguments.parts();
     let answer = match (call, numbers, inputs, rooms) {
         ("encode", [continuation, message, dvcc], [], [room]) => {
-            let dvcc = u8::try_from(*dvcc)?;
+            let dvcc = low_byte(*dvcc);
             encode(*continuation != 0, *message, dvcc, &mut room.bytes).into()
         }
-        ("decode", [dvcc], [input], []) => decode(input, u8::try_from(*dvcc)?).map(word).into(),
+        ("decode", [dvcc], [input], []) => decode(input, low_byte(*dvcc)).map(word).into(),
         ("decode_erased", [dvcc], [input], []) => {
-            decode_erased(input, u8::try_from(*dvcc)?).map(word).into()
+            decode_erased(input, low_byte(*dvcc)).map(word).into()
         }
         ("observe_half", [half], [input], [room]) => {
             observe_half(input, half_of(*half), &mut room.bytes).into()

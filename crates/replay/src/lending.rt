@@ -6,7 +6,7 @@ use calls::arguments::Arguments;
 use calls::errors::LineError;
 use std::alloc::Global;
 
-#[derive(Clone, Copy, Debug)]
+#[derive(Clone, Copy, Debug, PartialEq, Eq)]
 pub struct Line<'a> {
     module: &'a str,
     call: &'a str,
@@ -24,9 +24,14 @@ impl<'a> Line<'a> {
         })
     }
 
+    // Whether the call is over a record: then it is called once, and lent nothing.
+    pub fn is_over_record(self) -> bool {
+        self.module == "sacch" && self.call != "decode"
+    }
+
     pub fn call(self, alloc: Global, turn: usize) -> Result<Told, LineError> {
         let mut arguments = Arguments::read(alloc, self.arguments, turn)?;
-        if self.module == "sacch" && self.call != "decode" {
+        if self.is_over_record() {
             return sacch_words::over_record(alloc, self.call, &mut arguments);
         }
         let answer = self.lend(alloc, &mut arguments)?;

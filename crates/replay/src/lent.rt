@@ -1,4 +1,4 @@
-// A receiver lent to `push_outcome`.
+// A receiver lent to `push_outcome`: the stored calls have it beside `pushed`, which takes one by value, though both have one body.
 ghost use Rattle.std.specs.Prelude.{◌≡◌};
 ghost use Rattle.sacch_receiver.specs.Receiver.{push_of};
 

@@ -1,6 +1,7 @@
 // The records of SACCH as numbers of a line. Encoder: memory, twelve rows, cursor. Deinterleaver: twelve fields, cursor, how many were received. Receiver: its
 // deinterleaver, eleven rows, their cursor, how many are available, phase, and the locked phase or 100 (256) for none.
 use calls::errors::LineError;
+use calls::numerals::{low_byte, low_u16};
 use sacch_encoder::SacchEncoder;
 use sacch_interleaver::SacchDeinterleaver;
 use sacch_receiver::SacchReceiver;
@@ -9,6 +10,7 @@ use std::fmt;
 
 const UNLOCKED: u64 = 256;
 
+// (No `TryFrom` and `From`: none of the types is of this crate.)
 pub trait Record {
     // The record of so many numbers.
     fn of(numbers: &[u64]) -> Result<Self, LineError>
@@ -18,6 +20,11 @@ pub trait Record {
     fn write_to(&self, numbers: &mut Vec<u64>) -> Result<(), AllocError>;
 }
 
+// A place in a record. (`as`: std has no `From<usize>` for u64.)
+fn place(at: usize) -> u64 {
+    at as u64
+}
+
 // Rows or fields.
 fn list<const N: usize>(numbers: &[u64]) -> Result<[u16; N], LineError> {
     if numbers.len() != N {
@@ -25,7 +32,7 @@ fn list<const N: usize>(numbers: &[u64]) -> Result<[u16; N], LineError> {
     }
     let mut list = [0; N];
     for (place, number) in list.iter_mut().zip(numbers) {
-        *place = u16::try_from(*number)?;
+        *place = low_u16(*number);
     }
     Ok(list)
 }
@@ -40,7 +47,7 @@ impl Record for SacchEncoder {
             return Err(LineError::NoCall);
         };
         Ok(SacchEncoder {
-            memory: u8::try_from(*memory)?,
+            memory: low_byte(*memory),
             rows: list(rows)?,
             cursor: usize::try_from(*cursor)?,
         })
@@ -49,7 +56,7 @@ impl Record for SacchEncoder {
     fn write_to(&self, numbers: &mut Vec<u64>) -> Result<(), AllocError> {
         numbers.push(u64::from(self.memory))?;
         write_list(&self.rows, numbers)?;
-        numbers.push(self.cursor as u64)?;
+        numbers.push(place(self.cursor))?;
         Ok(())
     }
 }
@@ -68,17 +75,18 @@ impl Record for SacchDeinterleaver {
 
     fn write_to(&self, numbers: &mut Vec<u64>) -> Result<(), AllocError> {
         write_list(&self.fields, numbers)?;
-        numbers.push(self.cursor as u64)?;
-        numbers.push(self.received as u64)?;
+        numbers.push(place(self.cursor))?;
+        numbers.push(place(self.received))?;
         Ok(())
     }
 }
 
-fn locked_phase(number: u64) -> Result<Option<u8>, LineError> {
+// (No `From`: neither type is of this crate.)
+fn locked_phase(number: u64) -> Option<u8> {
     if number == UNLOCKED {
-        return Ok(None);
+        return None;
     }
-    Ok(Some(u8::try_from(number)?))
+    Some(low_byte(number))
 }
 
 impl Record for SacchReceiver {
@@ -94,16 +102,16 @@ impl Record for SacchReceiver {
             rows: list(rows)?,
             row_cursor: usize::try_from(*row_cursor)?,
             available: usize::try_from(*available)?,
-            phase: u8::try_from(*phase)?,
-            locked_phase: locked_phase(*locked)?,
+            phase: low_byte(*phase),
+            locked_phase: locked_phase(*locked),
         })
     }
 
     fn write_to(&self, numbers: &mut Vec<u64>) -> Result<(), AllocError> {
         self.deinterleaver.write_to(numbers)?;
         write_list(&self.rows, numbers)?;
-        numbers.push(self.row_cursor as u64)?;
-        numbers.push(self.available as u64)?;
+        numbers.push(place(self.row_cursor))?;
+        numbers.push(place(self.available))?;
         numbers.push(u64::from(self.phase))?;
         numbers.push(self.locked_phase.map_or(UNLOCKED, u64::from))?;
         Ok(())
@@ -111,7 +119,7 @@ impl Record for SacchReceiver {
 }
 
 // Numbers, each behind a space.
-#[derive(Clone, Copy, Debug)]
+#[derive(Clone, Copy, Debug, PartialEq, Eq)]
 pub struct Numbers<'a>(pub &'a [u64]);
 
 impl fmt::Display for Numbers<'_> {

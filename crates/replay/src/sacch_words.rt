@@ -5,12 +5,14 @@ use crate::told::Told;
 use calls::answers::Answer;
 use calls::arguments::Arguments;
 use calls::errors::LineError;
+use calls::numerals::{low_byte, low_u16};
 use sacch_decoder::SacchWord;
 use sacch_encoder::SacchEncoder;
 use sacch_interleaver::SacchDeinterleaver;
 use sacch_receiver::{ReceiveOutcome, SacchReceiver};
 use std::alloc::Global;
 
+// (No `From`: neither type is of this crate.)
 fn word(word: SacchWord) -> Answer {
     Answer::Word {
         continuation: word.continuation,
@@ -26,7 +28,7 @@ pub fn run(call: &str, arguments: &mut Arguments) -> Result<Answer, LineError> {
     match (call, numbers, inputs, rooms) {
         ("decode", [dvcc], [coded], []) => {
             Ok(
-                sacch_decoder::decode(coded, u8::try_from(*dvcc)?)
+                sacch_decoder::decode(coded, low_byte(*dvcc))
                     .map(word)
                     .into(),
             )
@@ -102,9 +104,9 @@ fn encode_word(
 // `encode_bits SIX`, `encode_word CONTINUATION MESSAGE DVCC` and `reset`, each before an encoder.
 fn encoder_call(alloc: Global, call: &str, numbers: &[u64]) -> Result<Told, LineError> {
     match (call, numbers) {
-        ("encode_bits", [six, before @ ..]) => encode_bits(alloc, u8::try_from(*six)?, before),
+        ("encode_bits", [six, before @ ..]) => encode_bits(alloc, low_byte(*six), before),
         ("encode_word", [continuation, message, dvcc, before @ ..]) => {
-            let dvcc = u8::try_from(*dvcc)?;
+            let dvcc = low_byte(*dvcc);
             encode_word(alloc, *continuation != 0, *message, dvcc, before)
         }
         ("reset", before) => {
@@ -121,7 +123,7 @@ fn deinterleaver_call(alloc: Global, call: &str, numbers: &[u64]) -> Result<Told
     match (call, numbers) {
         ("deinterleave", [field, before @ ..]) => {
             let mut deinterleaver = SacchDeinterleaver::of(before)?;
-            let row = deinterleaver.push(u16::try_from(*field)?);
+            let row = deinterleaver.push(low_u16(*field));
             let answer = row.map(|row| row.map_or(Answer::Pending, Answer::Value));
             told(alloc, answer.into(), before, &deinterleaver)
         }
@@ -134,6 +136,7 @@ fn deinterleaver_call(alloc: Global, call: &str, numbers: &[u64]) -> Result<Told
     }
 }
 
+// (No `From`: neither type is of this crate.)
 fn outcome(outcome: ReceiveOutcome) -> Answer {
     match outcome {
         ReceiveOutcome::Pending => Answer::Pending,
@@ -181,13 +184,7 @@ fn receiver_call(alloc: Global, call: &str, numbers: &[u64]) -> Result<Told, Lin
             told(alloc, Answer::Done, before, &receiver)
         }
         (_, [field, dvcc, before @ ..]) => {
-            push(
-                alloc,
-                call,
-                u16::try_from(*field)?,
-                u8::try_from(*dvcc)?,
-                before,
-            )
+            push(alloc, call, low_u16(*field), low_byte(*dvcc), before)
         }
         _ => Err(LineError::NoCall),
     }
@@ -203,6 +200,7 @@ pub fn over_record(
     let ([], []) = (inputs, rooms) else {
         return Err(LineError::NoCall);
     };
+    // Matched here by the record, and below by the arguments.
     match call {
         "encode_bits" | "encode_word" | "reset" => encoder_call(alloc, call, numbers),
         "deinterleave" | "reset_deinterleaver" => deinterleaver_call(alloc, call, numbers),

@@ -6,6 +6,7 @@ use calls::arguments::Arguments;
 use calls::errors::LineError;
 use speech::{CrcStatus, SpeechCandidate};
 
+// (No `From`: neither type is of this crate.)
 fn candidate(candidate: SpeechCandidate) -> Answer {
     Answer::Frame {
         valid: candidate.crc == CrcStatus::Valid,
@@ -36,6 +37,7 @@ pub fn vselp(call: &str, arguments: &mut Arguments) -> Result<Answer, LineError>
     Ok(answer)
 }
 
+// (No `From`: neither type is of this crate.)
 fn frame(frame: DecodedFrame) -> Answer {
     Answer::Frame {
         valid: frame.crc_valid,
@@ -43,6 +45,7 @@ fn frame(frame: DecodedFrame) -> Answer {
     }
 }
 
+// (No `From`: neither type is of this crate.)
 fn mode_of(number: u64) -> Interleaving {
     match number {
         1 => Interleaving::One,

@@ -2,6 +2,7 @@
 use calls::answers::Answer;
 use calls::arguments::Arguments;
 use calls::errors::LineError;
+use calls::numerals::{low_byte, low_u16};
 use coding::codes::{Acelp, Dcch, Facch};
 use flat_coding::bare_search::{Search, terminated};
 use flat_coding::{Checksum, Step, transition};
@@ -18,6 +19,7 @@ fn unless_refused(number: u8, expected: usize, actual: usize, answer: Answer) ->
     }
 }
 
+// (No `From`, here and below: neither type is of this crate.)
 fn stepped(step: Step) -> Answer {
     let output = step.output;
     let next = step.next;
@@ -43,8 +45,8 @@ pub fn step(call: &str, arguments: &mut Arguments) -> Result<Answer, LineError> 
     let ([state, input], [], []) = (numbers, inputs, rooms) else {
         return Err(LineError::NoCall);
     };
-    let state = u8::try_from(*state)?;
-    let input = u8::try_from(*input)?;
+    let state = low_byte(*state);
+    let input = low_byte(*input);
     let step = match call {
         "dcch" => transition::<Dcch, 2>(state, input),
         "facch" => transition::<Facch, 4>(state, input),
@@ -59,11 +61,11 @@ pub fn run(call: &str, arguments: &mut Arguments) -> Result<Answer, LineError> {
     let (numbers, inputs, rooms) = arguments.parts();
     let answer = match (call, numbers, inputs, rooms) {
         ("checksum", [dvcc, broadcast], [bits], []) => {
-            let dvcc = u8::try_from(*dvcc)?;
+            let dvcc = low_byte(*dvcc);
             checked(flat_dcch::checksum(bits, dvcc, *broadcast != 0))
         }
         ("checksum_from", [register], [bits], []) => {
-            checked(flat_coding::checksum_from(u16::try_from(*register)?, bits))
+            checked(flat_coding::checksum_from(low_u16(*register), bits))
         }
         ("checksum7", [], [bits], []) => checked(flat_coding::checksum7(bits)),
         ("search", [], [coded], [word]) => found(terminated(coded, &mut word.bytes)),

@@ -6,7 +6,7 @@ use calls::answers::Answer;
 use calls::rooms::Room;
 use std::fmt;
 
-#[derive(Debug, Drop)]
+#[derive(Debug, Drop, PartialEq, Eq)]
 pub struct Told {
     pub answer: Answer,
     // What was sent, and what became of the record, where the call was over one.

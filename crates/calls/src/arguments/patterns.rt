@@ -4,7 +4,10 @@ use crate::errors::LineError;
 use crate::numerals::{byte, length};
 use std::alloc::Global;
 
-#[derive(Debug, Drop)]
+// Bytes of a slice behind these are dropped.
+pub const LONGEST: usize = 800;
+
+#[derive(Debug, Drop, PartialEq, Eq)]
 pub struct Slice {
     pub bytes: Vec<u8>,
     // In how many turns one of its patterns has another byte.
@@ -12,9 +15,8 @@ pub struct Slice {
 }
 
 // A hexadecimal digit as a byte.
-fn digit(c: char) -> Result<u8, LineError> {
-    let value = c.to_digit(16).ok_or(LineError::NoCall)?;
-    Ok(u8::try_from(value)?)
+fn digit(character: u8) -> Result<u8, LineError> {
+    text::digit(character).ok_or(LineError::NoCall)
 }
 
 // `digits`, or a count, an x and digits, which go round.
@@ -23,7 +25,7 @@ fn repeated(alloc: Global, run: &str) -> Result<Vec<u8>, LineError> {
         Some((count, digits)) => (length(count)?, digits),
         None => (run.len(), run),
     };
-    let digits: Vec<u8> = digits.chars().map(digit).try_collect(alloc)?;
+    let digits: Vec<u8> = digits.bytes().map(digit).try_collect(alloc)?;
     if digits.is_empty() {
         return Err(LineError::NoCall);
     }
@@ -48,19 +50,22 @@ impl Slice {
         };
         for pattern in patterns.split_terminator(',') {
             slice.push(alloc, pattern, turn)?;
+            slice.bytes.truncate(LONGEST);
         }
         Ok(slice)
     }
 
     fn push(&mut self, alloc: Global, pattern: &str, turn: usize) -> Result<(), LineError> {
-        if pattern == "*" {
+        if pattern.starts_with('*') {
+            // `as`: below 256, where `u8::try_from` would have an error that never comes.
             self.bytes.push((turn % 256) as u8)?;
             self.turns = Some(256);
         } else if let Some(digits) = pattern.strip_prefix('#') {
             self.bytes.push(byte(digits)?)?;
         } else if let Some((run, digits)) = pattern.split_once('@') {
             let bytes = swept(alloc, run, byte(digits)?, turn)?;
-            self.turns = Some(bytes.len());
+            // A run of none has no turns.
+            self.turns = Some(bytes.len()).filter(|turns| *turns != 0);
             self.bytes.extend_from_slice(&bytes)?;
         } else {
             self.bytes.extend_from_slice(&repeated(alloc, pattern)?)?;

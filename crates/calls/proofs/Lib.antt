@@ -1,0 +1,2 @@
+-- The laws of words as numbers.
+pub mod Words
