@@ -28,21 +28,16 @@ pub fn reset_deinterleaver(mut deinterleaver: SacchDeinterleaver) -> SacchDeinte
     deinterleaver
 }
 
+// The record is made in one place: one that is made in two ways out is copied once more.
 pub fn deinterleave(mut deinterleaver: SacchDeinterleaver, field: u16) -> Row
     ensures { result ≡ flat_pushed_row (push_row_of deinterleaver field) }
 {
-    match deinterleaver.push(field) {
-        Ok(row) => Row {
-            refusal: 0,
-            complete: row.is_some(),
-            row: row.unwrap_or(0),
-            deinterleaver,
-        },
-        Err(why) => Row {
-            refusal: u8::from(why),
-            complete: false,
-            row: 0,
-            deinterleaver,
-        },
+    let pushed = deinterleaver.push(field);
+    let row = pushed.unwrap_or(None);
+    Row {
+        refusal: pushed.err().map_or(0, u8::from),
+        complete: row.is_some(),
+        row: row.unwrap_or(0),
+        deinterleaver,
     }
 }

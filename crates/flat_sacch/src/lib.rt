@@ -90,21 +90,20 @@ pub fn reset(mut encoder: SacchEncoder) -> SacchEncoder
     encoder
 }
 
-pub fn encode_bits(mut encoder: SacchEncoder, six: u8) -> Field
+// The record is made first and its encoder lent, since an encoder copied after the call waits for what the call stored. (Not so below, where it gains nothing.)
+pub fn encode_bits(encoder: SacchEncoder, six: u8) -> Field
     ensures { result ≡ flat_field (encode_bits_of encoder six) }
 {
-    match encoder.encode_bits(six) {
-        Ok(field) => Field {
-            refusal: 0,
-            encoder,
-            field,
-        },
-        Err(why) => Field {
-            refusal: u8::from(why),
-            encoder,
-            field: 0,
-        },
+    let mut sent = Field {
+        refusal: 0,
+        encoder,
+        field: 0,
+    };
+    match sent.encoder.encode_bits(six) {
+        Ok(field) => sent.field = field,
+        Err(why) => sent.refusal = u8::from(why),
     }
+    sent
 }
 
 pub fn encode_word(mut encoder: SacchEncoder, continuation: bool, message: u64, dvcc: u8) -> Fields

@@ -70,7 +70,12 @@ impl SacchEncoder {
         let coded = code_six(self.memory, six);
         self.memory = coded.memory;
         self.rows[self.cursor] = coded.row;
-        self.cursor = (self.cursor + 1) % 12;
+        // (No `% 12`: behind tests that are joined by `&` it is a multiplication.)
+        self.cursor = if self.cursor < 11 {
+            self.cursor + 1
+        } else {
+            0
+        };
         coded.row
     }
 

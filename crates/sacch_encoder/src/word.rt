@@ -17,7 +17,8 @@ pub struct Coded {
     pub memory: u8,
 }
 
-// The row of six bits from a memory.
+// The row of six bits from a memory. Inline: six bits of a number then go by registers, where a call would read them from memory.
+#[inline(always)]
 pub fn code_six(memory: u8, six: &[u8; 6]) -> Coded
     requires { memory < 32 }
     ensures { (result.row ≡ coded_row memory (packed (bits six.now))) × (result.memory ≡ memory_after memory (packed (bits six.now))) }

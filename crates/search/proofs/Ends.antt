@@ -1,13 +1,15 @@
 -- One ending more keeps the lowest. Assumes nothing.
-use mathlib.Core.Path.{◌≡◌, refl, sym, ap, subst}
-use mathlib.Core.Bool.{Bool, true, false, false≢true}
+use mathlib.Core.Path.{◌≡◌, refl, sym, ap, subst, ◌∙◌}
+use mathlib.Core.Bool.{Bool, true, false, false≢true, ◌||◌}
 use mathlib.Core.List.{List}
 use Prim.Native.Nat.{ℕ, ◌+◌, ◌<◌, ◌≤◌}
 use native.Mathlib.Omega.{arith}
 use native.Mathlib.Decide.{ℕ_discrete, dec_lt}
 use native.Mathlib.Nat.{le_refl}
 use lib.ListN.{get_or}
+use lib.Dec.{eqb}
 use borrow.Author.Tests.{lt-ltb, le-ltb}
+use Rattle.std.proofs.lemmas.Bool.{eq-eqb, ne_eqb}
 use Rattle.search.specs.Ends.{lower_of, Other, LowestEnd}
 use Rattle.search.specs.declared.free.End.{End}
 
@@ -22,6 +24,30 @@ more d m s h = rw (le-ltb m d.outcome.metric (omega arith), lt-ltb d.outcome.met
 pub even : (d : End) (m : ℕ) (s : ℕ) → d.outcome.metric ≤ m → m ≤ d.outcome.metric → record { outcome = record { metric = d.outcome.metric; tie = true }; state = d.state } ≡ lower_of d m s
 unfolding lower_of
 even d m s h g = rw (le-ltb m d.outcome.metric h, le-ltb d.outcome.metric m g)
+
+-- one that is not less leaves the end, and is a tie where it is as low
+pub kept : (d : End) (m : ℕ) (s : ℕ) → d.outcome.metric ≤ m
+    → record { outcome = record { metric = d.outcome.metric; tie = d.outcome.tie || eqb m d.outcome.metric }; state = d.state } ≡ lower_of d m s
+kept d m s h = go (dec_lt d.outcome.metric m)
+  where
+    with_tie : Bool → End
+    with_tie t = record { outcome = record { metric = d.outcome.metric; tie = t }; state = d.state }
+
+    or_false : (t : Bool) → (t || false) ≡ t
+    or_false true = refl
+    or_false false = refl
+
+    or_true : (t : Bool) → (t || true) ≡ true
+    or_true true = refl
+    or_true false = refl
+
+    go : Dec (d.outcome.metric < m) → with_tie (d.outcome.tie || eqb m d.outcome.metric) ≡ lower_of d m s
+    go (yes g) =
+        ap with_tie (ap (λ (t : Bool). d.outcome.tie || t) (ne_eqb m d.outcome.metric (λ e. let z : ⊥ = omega arith in z)) ∙ or_false d.outcome.tie)
+        ∙ more d m s g
+    go (no g) =
+        ap with_tie (ap (λ (t : Bool). d.outcome.tie || t) (eq-eqb m d.outcome.metric (omega arith)) ∙ or_true d.outcome.tie)
+        ∙ even d m s h (omega arith)
 
 module _ (ms : List ℕ) where
   module _ (k : ℕ) (d : End) (i : LowestEnd ms k d) where
