@@ -1,23 +1,33 @@
 // Bytes written one after the other into an array of fixed size, so that no heap is needed. A clause sees what was written, as a list.
 // Each function asks for the room that it takes, as no two write as much: a push that could fail would be tested at each byte.
-// (The kit's `ArrayVec` is of a crate besides std, of which none is used here, and its `clear` blanks what was written.)
-ghost use Rattle.std.specs.Prelude.{◌≡◌, ◌==◌, ◌+◌, ◌≤◌, ◌<◌, List, [], ◌∷◌, ◌++◌, ℕ, length, take};
+// (The kit's `ArrayVec` is of a crate besides std, of which none is used here, and it can't be copied.)
+ghost use Rattle.std.specs.Prelude.{◌≡◌, ◌==◌, ◌+◌, ◌≤◌, ◌<◌, List, [], ◌∷◌, ◌++◌, ℕ, length};
+ghost use Rattle.text.specs.Numerals.{decimal as decimal_text, hexadecimal};
 
+use crate::numerals::{put, put_decimal, put_hexadecimal, put_text};
 use std::marker::Model;
 
-// No `PartialEq`: two that were written alike may differ behind it.
-#[derive(Drop)]
+// Zeros stand behind what was written, so that a list tells the bytes, and a buffer can be copied.
+#[derive(Clone, Copy)]
 pub struct Buffer<const N: usize> {
-    pub(crate) bytes: [u8; N],
-    pub(crate) len: usize,
+    bytes: [u8; N],
+    len: usize,
 }
 
 impl<const N: usize> Model for Buffer<N> {
+    ghost use Rattle.std.specs.Prelude.{List, ℕ, ◌++◌, ◌-◌, length, replicate, take};
+    ghost use Rattle.text.specs.Writing.{Held};
+    ghost use Rattle.text.specs.Laws.{same_bytes};
+
     ghost Value = { List ℕ };
 
     ghost view = { λ b. take b.len b.bytes };
 
-    ghost invariant = { λ b. (b.len ≤ N) × (length b.bytes ≡ N) };
+    ghost invariant = { λ b. Held N b.len b.bytes };
+
+    ghost inverse = { λ l. record { bytes = l ++ replicate (N - length l) 0; len = length l } };
+
+    ghost inverse_ok = { λ b h. same_bytes h (λ bytes len. record { bytes = bytes; len = len }) };
 }
 
 impl<const N: usize> Buffer<N> {
@@ -30,10 +40,11 @@ impl<const N: usize> Buffer<N> {
         }
     }
 
-    // Makes it empty; what was written is left where it is, as no clause sees it.
+    // Makes it empty.
     pub fn clear(&mut self)
         ensures { self.new ≡ [] }
     {
+        self.bytes[..self.len].fill(0);
         self.len = 0;
     }
 
@@ -63,8 +74,7 @@ impl<const N: usize> Buffer<N> {
         ensures bytes { self.new ≡ self.old ++ b ∷ [] }
         ensures len { length self.new ≡ length self.old + 1 }
     {
-        self.bytes[self.len] = b;
-        self.len += 1;
+        self.len = put(&mut self.bytes, self.len, b);
     }
 
     pub fn extend_from_slice(&mut self, part: &[u8])
@@ -72,10 +82,24 @@ impl<const N: usize> Buffer<N> {
         ensures bytes { self.new ≡ self.old ++ part.now }
         ensures len { length self.new ≡ length self.old + length part.now }
     {
-        let start = self.len;
-        let end = start + part.len();
-        let bytes = &mut self.bytes[..];
-        bytes[start..end].copy_from_slice(part);
-        self.len = end;
+        self.len = put_text(&mut self.bytes, self.len, part);
+    }
+
+    // A space and k hexadecimal digits.
+    pub fn put_hexadecimal(&mut self, k: usize, n: u64)
+        requires { length self.old + k + 1 ≤ N }
+        ensures text { self.new ≡ self.old ++ hexadecimal k n }
+        ensures len { length self.new ≡ length self.old + k + 1 }
+    {
+        self.len = put_hexadecimal(&mut self.bytes, self.len, k, n);
+    }
+
+    // n in decimal.
+    pub fn put_decimal(&mut self, n: u64)
+        requires { length self.old + 20 ≤ N }
+        ensures text { self.new ≡ self.old ++ decimal_text n }
+        ensures upper_bound { length self.new ≤ length self.old + 20 }
+    {
+        self.len = put_decimal(&mut self.bytes, self.len, n);
     }
 }
