@@ -2,5 +2,6 @@
 #![tactic(auto)]
 
 pub mod command;
+pub mod lent;
 pub mod mask;
 pub mod reply;
