@@ -12,4 +12,5 @@ pub mod Ended
 pub mod Ending
 pub mod Gathered
 pub mod Stepped
+pub mod Placed
 pub mod Transcript

@@ -2,6 +2,7 @@
 // specs/Output.antt has what is written for a whole input, as one definition.
 #![tactic(auto)]
 
+mod lent;
 mod replies;
 mod totals;
 
@@ -10,16 +11,16 @@ ghost use Rattle.session.specs.Scanning.{bytes_said, closed, end_said, ended, se
 ghost use Rattle.session.specs.Sessions.{at_start, end_text};
 
 use crate::replies::reply_to;
-use crate::totals::{Tally, added, put_closing};
+pub use crate::totals::Tally;
+use crate::totals::{added, put_closing};
 use lines::reply::put_reply;
 use sacch::SacchReceiver;
 use std::marker::Model;
 use text::buffer::Buffer;
 use text::line_end;
 
-// All that goes from one piece of the input to the next. A clause sees it as a scan of the input so far (specs/Scanning.antt). (One of a run,
-// and neither compared nor printed.)
-#[derive(Drop)]
+// All that goes from one piece of the input to the next. A clause sees it as a scan of the input so far (specs/Scanning.antt).
+#[derive(Clone, Copy)]
 pub struct Session {
     // How many lines may still be read.
     left: u32,
@@ -40,6 +41,8 @@ impl Model for Session {
     ghost view = { λ s. record { left = s.left; state = record { receiver = s.receiver; tally = s.tally; counts = s.counts }; part = s.line } };
 
     ghost invariant = { λ s. Fits s.tally s.left s.counts s.line };
+
+    ghost inverse = { λ c. record { left = c.left; line = c.part; receiver = c.state.receiver; tally = c.state.tally; counts = c.state.counts } };
 }
 
 impl Session {
@@ -61,6 +64,27 @@ impl Session {
         ensures { result ≡ self.now.left }
     {
         self.left
+    }
+
+    // How many characters of the line so far are kept.
+    pub fn len(&self) -> usize
+        ensures { result ≡ length self.now.part }
+    {
+        self.line.len()
+    }
+
+    // The one receiver, as the lines so far leave it.
+    pub fn receiver(&self) -> SacchReceiver
+        ensures { result ≡ self.now.state.receiver }
+    {
+        self.receiver
+    }
+
+    // The totals of the lines so far.
+    pub fn tally(&self) -> Tally
+        ensures { result ≡ self.now.state.tally }
+    {
+        self.tally
     }
 
     // Bytes of a line, none of them LF, go on with the line so far.
