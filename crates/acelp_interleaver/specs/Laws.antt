@@ -6,7 +6,7 @@ use Rattle.interleaving.specs.Orders.{OrderLaws}
 use Rattle.interleaving.proofs.Orders.{permuted_laws}
 use Rattle.acelp_interleaver.specs.Wire.{table, place_of, place_at, wire_of}
 
-passed : T (permutes (listed 260 place_at) 260)
+pub passed : T (permutes (listed 260 place_at) 260)
 unfolding permutes stands found place_in listed table
 passed = tt
 

@@ -24,9 +24,12 @@ fn is_blank(line: &[u8]) -> bool
 pub fn line_kind(line: &[u8]) -> LineKind
     ensures { result ≡ kind_of line.now }
 {
-    if 136 < line.len() {
+    // Both are tested before it answers: a program with the other rule differs in the order of the answers alone.
+    let long = 136 < line.len();
+    let blank = is_blank(line);
+    if long {
         LineKind::TooLong
-    } else if is_blank(line) {
+    } else if blank {
         LineKind::Blank
     } else {
         LineKind::Filled
