@@ -1,2 +1,3 @@
--- The laws of words as numbers.
+-- The laws of words as numbers (Words), and of one more byte (Pushed).
+pub mod Pushed
 pub mod Words

@@ -1,23 +1,25 @@
 // The arguments of a line in one of its turns: numbers, then slices that a call reads, then the rooms that it writes.
 mod patterns;
 
-ghost use Rattle.std.specs.Prelude.{◌≡◌, ◌%◌, All, IfOk, OnOk, take, vec_len};
+ghost use Rattle.std.specs.Prelude.{◌≡◌, ◌%◌, All, IfOk, OnOk, take};
 ghost use Rattle.calls.specs.Rooms.{IsUntouched};
 
+use crate::bytes::Bytes;
 use crate::errors::LineError;
 use crate::numerals::{length, number};
 use crate::rooms::Room;
-use patterns::{LONGEST, Slice};
-use std::alloc::Global;
+use patterns::Slice;
 
-#[derive(Debug, Drop, PartialEq, Eq)]
+#[derive(Clone, Copy, Debug, PartialEq, Eq)]
 pub struct Arguments {
-    pub numbers: Vec<u64>,
+    // Of more than 64 numbers, the first 64.
+    pub numbers: [u64; 64],
     // Of more than two slices that a call reads, the first and the last, and so of the rooms.
-    pub inputs: Vec<Vec<u8>>,
-    pub rooms: Vec<Room>,
-    // How many of each the line has. The counts go round at four, and the one of numbers at 64: they are no lengths, as stored lines are answered as
-    // they were, whatever their counts.
+    pub inputs: [Bytes; 2],
+    pub rooms: [Room; 2],
+    // How many of each the line has. As they are taken, the counts of inputs and rooms go round at four, and the one of numbers at 64: they are no lengths, as
+    // stored lines are answered as they were, whatever their counts.
+    pub numbers_given: usize,
     pub inputs_given: usize,
     pub rooms_given: usize,
     // In how many turns the line is called with another byte each time, where not once.
@@ -26,76 +28,99 @@ pub struct Arguments {
 
 impl Arguments {
     // The numbers, what a call reads and where it writes, as the counts go round.
-    pub fn parts(&mut self) -> (&[u64], &[Vec<u8>], &mut [Room])
-        ensures numbers { result.0.now ≡ take (vec_len self.old.numbers % 64) self.old.numbers.items }
-        ensures inputs { result.1.now ≡ take self.old.inputs_given self.old.inputs.items }
-        ensures rooms { result.2.now ≡ take self.old.rooms_given self.old.rooms.items }
+    pub fn parts(&mut self) -> (&[u64], &[Bytes], &mut [Room])
+        ensures numbers { result.0.now ≡ take (self.old.numbers_given % 64) self.old.numbers }
+        ensures inputs { result.1.now ≡ take (self.old.inputs_given % 4) self.old.inputs }
+        ensures rooms { result.2.now ≡ take (self.old.rooms_given % 4) self.old.rooms }
     {
-        let numbers = self.numbers.len() % 64;
-        let inputs = self.inputs_given.min(self.inputs.len());
-        let rooms = self.rooms_given.min(self.rooms.len());
+        let numbers = self.numbers_given % 64;
+        let inputs = (self.inputs_given % 4).min(2);
+        let rooms = (self.rooms_given % 4).min(2);
+        // Lent whole, before a part of them is.
+        let all_rooms = &mut self.rooms;
         (
             &self.numbers[..numbers],
             &self.inputs[..inputs],
-            &mut self.rooms[..rooms],
+            &mut all_rooms[..rooms],
         )
     }
 
-    fn new(alloc: Global) -> Arguments
-        ensures { All IsUntouched result.rooms.items }
+    // The rooms: of more than two the first and the last.
+    pub fn rooms(&self) -> &[Room]
+        ensures { result.now ≡ take self.now.rooms_given self.now.rooms }
+    {
+        &self.rooms[..self.rooms_given.min(2)]
+    }
+
+    fn new() -> Arguments
+        ensures { All IsUntouched result.rooms }
     {
         Arguments {
-            numbers: Vec::new(alloc),
-            inputs: Vec::new(alloc),
-            rooms: Vec::new(alloc),
+            numbers: [0; 64],
+            inputs: [Bytes::repeated(0, 0); 2],
+            rooms: [Room::new(0); 2],
+            numbers_given: 0,
             inputs_given: 0,
             rooms_given: 0,
             turns: None,
         }
     }
 
-    pub fn read(alloc: Global, words: &str, turn: usize) -> Result<Arguments, LineError>
-        ensures { IfOk result (λ arguments. All IsUntouched arguments.rooms.items) }
+    pub fn read(words: &str, turn: usize) -> Result<Arguments, LineError>
+        ensures { IfOk result (λ arguments. All IsUntouched arguments.rooms) }
     {
-        let mut arguments = Arguments::new(alloc);
+        let mut arguments = Arguments::new();
         for word in words.split_terminator(' ') {
-            arguments.take(alloc, word, turn)?;
+            arguments.take(word, turn)?;
         }
         // No call has three.
-        if arguments.inputs_given == 3 || arguments.rooms_given == 3 {
+        if arguments.inputs_given % 4 == 3 || arguments.rooms_given % 4 == 3 {
             return Err(LineError::NoCall);
         }
         Ok(arguments)
     }
 
-    // One more room. The first stays.
-    fn push_room(&mut self, room: Room) -> Result<(), LineError>
-        requires untouched { All IsUntouched self.old.rooms.items }
-        requires new { IsUntouched room }
-        ensures { OnOk result (All IsUntouched self.new.rooms.items) }
+    // One more number, which is dropped where there is no room for it.
+    fn push_number(&mut self, number: u64)
+        ensures { self.new.rooms ≡ self.old.rooms }
     {
-        self.rooms.truncate(1);
-        self.rooms.push(room)?;
-        self.rooms_given = (self.rooms_given % 4 + 1) % 4;
-        Ok(())
+        if self.numbers_given < 64 {
+            self.numbers[self.numbers_given] = number;
+        }
+        self.numbers_given = self.numbers_given.wrapping_add(1);
+    }
+
+    // One more slice that a call reads. The first stays.
+    fn push_input(&mut self, input: Bytes)
+        ensures { self.new.rooms ≡ self.old.rooms }
+    {
+        self.inputs[self.inputs_given.min(1)] = input;
+        self.inputs_given = self.inputs_given.wrapping_add(1);
+    }
+
+    // One more room. The first stays.
+    fn push_room(&mut self, room: Room)
+        requires untouched { All IsUntouched self.old.rooms }
+        requires new { IsUntouched room }
+        ensures { All IsUntouched self.new.rooms }
+    {
+        self.rooms[self.rooms_given.min(1)] = room;
+        self.rooms_given = self.rooms_given.wrapping_add(1);
     }
 
     // One argument: `:` starts a slice, `_` the length of a room, and anything else is a number.
-    fn take(&mut self, alloc: Global, word: &str, turn: usize) -> Result<(), LineError>
-        requires { All IsUntouched self.old.rooms.items }
-        ensures { OnOk result (All IsUntouched self.new.rooms.items) }
+    fn take(&mut self, word: &str, turn: usize) -> Result<(), LineError>
+        requires { All IsUntouched self.old.rooms }
+        ensures { OnOk result (All IsUntouched self.new.rooms) }
     {
         if let Some(pattern) = word.strip_prefix(':') {
-            let slice = Slice::expand(alloc, pattern, turn)?;
+            let slice = Slice::expand(pattern, turn)?;
             self.turns = self.turns.max(slice.turns);
-            self.inputs.truncate(1);
-            self.inputs.push(slice.bytes)?;
-            self.inputs_given = (self.inputs_given % 4 + 1) % 4;
+            self.push_input(slice.bytes);
         } else if let Some(digits) = word.strip_prefix('_') {
-            let room = Room::new(alloc, length(digits)?.min(LONGEST))?;
-            self.push_room(room)?;
+            self.push_room(Room::new(length(digits)?));
         } else {
-            self.numbers.push(number(word)?)?;
+            self.push_number(number(word)?);
         }
         Ok(())
     }

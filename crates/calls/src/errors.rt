@@ -1,31 +1,13 @@
 // Why a line is not answered.
 ghost use Rattle.std.specs.Prelude.{◌≡◌};
-ghost use Rattle.calls.specs.declared.errors.LineError.TheVariants.{NoCall, OutOfMemory};
+ghost use Rattle.calls.specs.declared.errors.LineError.TheVariants.{NoCall};
 
-use std::alloc::{AllocError, AllocFailed};
 use std::num::TryFromIntError;
 
 #[derive(Clone, Copy, Debug, PartialEq, Eq)]
 pub enum LineError {
     // It is no call.
     NoCall,
-    OutOfMemory,
-}
-
-impl From<AllocError> for LineError {
-    ghost from_gives = { λ _ error. error ≡ OutOfMemory };
-
-    fn from(_error: AllocError) -> LineError {
-        LineError::OutOfMemory
-    }
-}
-
-impl<T: Drop> From<AllocFailed<T>> for LineError {
-    ghost from_gives = { λ _ error. error ≡ OutOfMemory };
-
-    fn from(error: AllocFailed<T>) -> LineError {
-        LineError::from(AllocError::from(error))
-    }
 }
 
 // A number that is too large for what it stands for.

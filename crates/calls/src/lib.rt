@@ -3,6 +3,7 @@
 
 pub mod answers;
 pub mod arguments;
+pub mod bytes;
 pub mod errors;
 pub mod numerals;
 pub mod rooms;

@@ -1,13 +1,13 @@
 // Numbers in the words of a line.
 ghost use Rattle.std.specs.Prelude.{ℕ, ◌≡◌, ◌<◌, ◌≤◌, ◌*◌, ◌+◌, ◌^◌, ◌%◌, MatchResult};
-ghost use Rattle.calls.specs.Numerals.{Reads, numeral_of};
+ghost use Rattle.calls.specs.Numerals.{IsNumeral, Reads, numeral_of};
 ghost use Rattle.calls.specs.declared.errors.LineError.TheVariants.{NoCall};
 
 use crate::errors::LineError;
 use text::digit;
 
 // Digits in a base. Those that come when the number has come to a bound are dropped.
-#[tactic(auto, using(crate::proofs::Words::dropped, crate::proofs::Words::taken))]
+#[tactic(auto, using(crate::proofs::Words::digits_more, crate::proofs::Words::dropped, crate::proofs::Words::taken))]
 fn numeral(word: &str, base: u64, bound: u64) -> Result<u64, LineError>
     requires room { (n : ℕ) → n < bound → n * base + 16 ≤ 2 ^ 64 }
     ensures { Reads base bound word.now result }
@@ -34,7 +34,7 @@ pub fn number(word: &str) -> Result<u64, LineError>
 
 // Hexadecimal digits of a byte.
 pub fn byte(word: &str) -> Result<u8, LineError>
-    ensures { MatchResult result (λ b. b ≡ numeral_of 16 (2 ^ 60) word.now % 256) (λ error. error ≡ NoCall) }
+    ensures { MatchResult result (λ b. IsNumeral word.now × (b ≡ numeral_of 16 (2 ^ 60) word.now % 256)) (λ error. (¬ (IsNumeral word.now)) × (error ≡ NoCall)) }
 {
     Ok(low_byte(number(word)?))
 }

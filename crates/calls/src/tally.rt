@@ -1,16 +1,21 @@
 // Of the turns of a line, how many were answered, refused by each number, and left the rooms as they were.
+ghost use Rattle.std.specs.Prelude.{◌≡◌, slice_index, slice_set};
+ghost use Rattle.calls.specs.Tally.{one_more, with_turn};
+
 use crate::answers::Answer;
 use std::fmt;
 
 #[derive(Clone, Copy, Debug, PartialEq, Eq, Default)]
 pub struct Tally {
-    answered: u32,
-    refused: [u32; 9],
-    untouched: u32,
+    pub answered: u32,
+    pub refused: [u32; 9],
+    pub untouched: u32,
 }
 
 impl Tally {
-    pub fn count(&mut self, answer: Answer, untouched: bool) {
+    pub fn count(&mut self, answer: Answer, untouched: bool)
+        ensures { self.new ≡ with_turn self.old answer untouched }
+    {
         if untouched {
             self.untouched = self.untouched.saturating_add(1);
         }
@@ -21,9 +26,12 @@ impl Tally {
         }
     }
 
-    fn count_refusal(&mut self, number: u8) {
-        if let Some(count) = self.refused.get_mut(usize::from(number)) {
-            *count = count.saturating_add(1);
+    fn count_refusal(&mut self, number: u8)
+        ensures { self.new ≡ record self.old { refused = slice_set self.old.refused number (one_more (slice_index self.old.refused number)) } }
+    {
+        let number = usize::from(number);
+        if let Some(count) = self.refused.get(number) {
+            self.refused[number] = count.saturating_add(1);
         }
     }
 }

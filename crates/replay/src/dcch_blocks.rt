@@ -1,11 +1,11 @@
 // DCCH. A line has the format, the colour code and whether it is broadcast.
 use calls::answers::Answer;
 use calls::arguments::Arguments;
+use calls::bytes::LONGEST;
 use calls::errors::LineError;
 use calls::numerals::low_byte;
-use dcch::{decode, decode_soft, encode};
+use dcch::{CrcMode, Refusal, decode, decode_soft, encode};
 use dcch_interleaver::BlockFormat;
-use std::alloc::{AllocError, Global};
 
 // (No `From`: neither type is of this crate.)
 fn format_of(number: u64) -> BlockFormat {
@@ -41,12 +41,24 @@ fn reliability(byte: u8) -> f64 {
     }
 }
 
-fn reliabilities(alloc: Global, bytes: &[u8]) -> Result<Vec<f64>, AllocError> {
-    bytes.iter().map(|byte| reliability(*byte)).collect(alloc)
+// `decode_soft`, whose reliabilities are bytes of a line.
+fn soft(
+    format: BlockFormat,
+    bytes: &[u8],
+    dvcc: u8,
+    mode: CrcMode,
+    room: &mut [u8],
+) -> Result<u16, Refusal> {
+    let mut values = [0.0; LONGEST];
+    for (value, byte) in values.iter_mut().zip(bytes) {
+        *value = reliability(*byte);
+    }
+    let values = &values[..bytes.len().min(LONGEST)];
+    decode_soft(format, values, dvcc, mode, room)
 }
 
 // `encode`, `decode` and `decode_soft`, each FORMAT DVCC BROADCAST READ WRITTEN.
-pub fn run(alloc: Global, call: &str, arguments: &mut Arguments) -> Result<Answer, LineError> {
+pub fn run(call: &str, arguments: &mut Arguments) -> Result<Answer, LineError> {
     let (numbers, inputs, rooms) = arguments.parts();
     let ([format, dvcc, broadcast], [input], [room]) = (numbers, inputs, rooms) else {
         return Err(LineError::NoCall);
@@ -54,11 +66,12 @@ pub fn run(alloc: Global, call: &str, arguments: &mut Arguments) -> Result<Answe
     let format = format_of(*format);
     let dvcc = low_byte(*dvcc);
     let mode = flat_dcch::mode_of(*broadcast != 0);
-    let room = room.bytes.as_mut_slice();
+    let input = input.as_slice();
+    let room = room.lend();
     let decoded = match call {
         "encode" => return Ok(encode(format, input, dvcc, mode, room).into()),
         "decode" => decode(format, input, dvcc, mode, room),
-        "decode_soft" => decode_soft(format, &reliabilities(alloc, input)?, dvcc, mode, room),
+        "decode_soft" => soft(format, input, dvcc, mode, room),
         _ => return Err(LineError::NoCall),
     };
     Ok(decoded.map(Answer::Corrected).into())

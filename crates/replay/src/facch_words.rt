@@ -32,20 +32,24 @@ pub fn run(call: &str, arguments: &mut Arguments) -> Result<Answer, LineError> {
     let answer = match (call, numbers, inputs, rooms) {
         ("encode", [continuation, message, dvcc], [], [room]) => {
             let dvcc = low_byte(*dvcc);
-            encode(*continuation != 0, *message, dvcc, &mut room.bytes).into()
+            encode(*continuation != 0, *message, dvcc, room.lend()).into()
         }
-        ("decode", [dvcc], [input], []) => decode(input, low_byte(*dvcc)).map(word).into(),
+        ("decode", [dvcc], [input], []) => decode(input.as_slice(), low_byte(*dvcc))
+            .map(word)
+            .into(),
         ("decode_erased", [dvcc], [input], []) => {
-            decode_erased(input, low_byte(*dvcc)).map(word).into()
+            decode_erased(input.as_slice(), low_byte(*dvcc))
+                .map(word)
+                .into()
         }
         ("observe_half", [half], [input], [room]) => {
-            observe_half(input, half_of(*half), &mut room.bytes).into()
+            observe_half(input.as_slice(), half_of(*half), room.lend()).into()
         }
         ("interleave", [], [previous, current], [room]) => {
-            interleave(previous, current, &mut room.bytes).into()
+            interleave(previous.as_slice(), current.as_slice(), room.lend()).into()
         }
         ("deinterleave", [], [first, second], [room]) => {
-            deinterleave(first, second, &mut room.bytes).into()
+            deinterleave(first.as_slice(), second.as_slice(), room.lend()).into()
         }
         _ => return Err(LineError::NoCall),
     };

@@ -1,10 +1,9 @@
-// A line as its call: makes the slices of a turn, lends them, and keeps what came of it.
+// A line as its call: lends the slices of a turn, and keeps what came of it.
 use crate::told::Told;
 use crate::{dcch_blocks, facch_words, sacch_words, speech_frames, steps};
 use calls::answers::Answer;
 use calls::arguments::Arguments;
 use calls::errors::LineError;
-use std::alloc::Global;
 
 #[derive(Clone, Copy, Debug, PartialEq, Eq)]
 pub struct Line<'a> {
@@ -29,25 +28,26 @@ impl<'a> Line<'a> {
         self.module == "sacch" && self.call != "decode"
     }
 
-    pub fn call(self, alloc: Global, turn: usize) -> Result<Told, LineError> {
-        let mut arguments = Arguments::read(alloc, self.arguments, turn)?;
+    // The call of a turn, whose arguments these are.
+    pub fn call(self, arguments: &mut Arguments) -> Result<Told<'_>, LineError> {
         if self.is_over_record() {
-            return sacch_words::over_record(alloc, self.call, &mut arguments);
+            return sacch_words::over_record(self.call, arguments);
         }
-        let answer = self.lend(alloc, &mut arguments)?;
+        let answer = self.lend(arguments)?;
         Ok(Told {
             answer,
-            record: None,
-            rooms: arguments.rooms,
+            sent: None,
+            became: None,
+            rooms: arguments.rooms(),
         })
     }
 
     // Every call but those over records.
-    fn lend(self, alloc: Global, arguments: &mut Arguments) -> Result<Answer, LineError> {
+    fn lend(self, arguments: &mut Arguments) -> Result<Answer, LineError> {
         match self.module {
             "step" => steps::step(self.call, arguments),
             "coding" => steps::run(self.call, arguments),
-            "dcch" => dcch_blocks::run(alloc, self.call, arguments),
+            "dcch" => dcch_blocks::run(self.call, arguments),
             "facch" => facch_words::run(self.call, arguments),
             "sacch" => sacch_words::run(self.call, arguments),
             "speech" => speech_frames::vselp(self.call, arguments),

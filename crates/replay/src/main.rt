@@ -7,6 +7,7 @@ mod dcch_blocks;
 mod facch_words;
 mod lending;
 mod lent;
+mod page;
 mod records;
 mod sacch_words;
 mod speech_frames;
@@ -17,30 +18,54 @@ use calls::arguments::Arguments;
 use calls::errors::LineError;
 use calls::tally::Tally;
 use lending::Line;
-use std::alloc::Global;
+use page::Page;
 use std::io;
-use std::io::{BufRead, BufReader, Write};
+use std::io::{Read, Write};
+use text::buffer::Buffer;
 
 // No line is longer.
 const LONGEST: usize = 2048;
 
+// Of a line so much is kept as shows that it is too long.
+const KEPT: usize = LONGEST + 1;
+
 // Counts the answers to every turn of a line. (Over numbers: a turn is its number, which stands in the bytes of the line.)
-fn sweep(alloc: Global, line: Line<'_>, turns: usize) -> Result<Tally, LineError> {
+fn sweep(line: Line<'_>, turns: usize) -> Result<Tally, LineError> {
     let mut tally = Tally::default();
     for turn in 0..turns {
-        let told = line.call(alloc, turn)?;
+        let mut arguments = Arguments::read(line.arguments, turn)?;
+        let told = line.call(&mut arguments)?;
         tally.count(told.answer, told.is_untouched());
     }
     Ok(tally)
 }
 
-fn answer(alloc: Global, text: &str) -> Result<String, LineError> {
+// Writes what is answered to a line, where it is a call.
+fn answer<W: Write>(out: &mut W, text: &str) -> Result<io::Result<()>, LineError> {
     let line = Line::split(text)?;
-    let told = match Arguments::read(alloc, line.arguments, 0)?.turns {
-        Some(turns) if !line.is_over_record() => sweep(alloc, line, turns)?.to_string(alloc)?,
-        _ => line.call(alloc, 0)?.to_string(alloc)?,
-    };
-    Ok(told)
+    let mut arguments = Arguments::read(line.arguments, 0)?;
+    match arguments.turns {
+        Some(turns) if !line.is_over_record() => {
+            let tally = sweep(line, turns)?;
+            Ok(writeln!(out, "{tally}"))
+        }
+        _ => {
+            let told = line.call(&mut arguments)?;
+            Ok(writeln!(out, "{told}"))
+        }
+    }
+}
+
+// A line as text: `?` stands for what is no ASCII, as no call has it. (So it is UTF-8: the error never comes.)
+fn answer_bytes<W: Write>(out: &mut W, line: &[u8]) -> Result<io::Result<()>, LineError> {
+    let mut characters = [b'?'; LONGEST];
+    for (character, byte) in characters.iter_mut().zip(line) {
+        if byte.is_ascii() {
+            *character = *byte;
+        }
+    }
+    let text = &characters[..line.len().min(LONGEST)];
+    answer(out, str::from_utf8(text).map_err(|_| LineError::NoCall)?)
 }
 
 fn copy_line<W: Write>(out: &mut W, before: &[u8], line: &[u8]) -> io::Result<()> {
@@ -49,39 +74,56 @@ fn copy_line<W: Write>(out: &mut W, before: &[u8], line: &[u8]) -> io::Result<()
     out.write_all(b"\n")
 }
 
-// (A line that is no UTF-8 is copied as it is.)
-fn answer_line<W: Write>(alloc: Global, out: &mut W, line: &[u8]) -> io::Result<()> {
+fn answer_line<W: Write>(out: &mut W, line: &[u8]) -> io::Result<()> {
     if LONGEST < line.len() {
         return out.write_all(b"? a line that is too long\n");
     }
     if line.starts_with(b"//") {
         return copy_line(out, b"", line);
     }
-    match answer(alloc, String::from_utf8_lossy(alloc, line)?.as_str()) {
-        Ok(told) => writeln!(out, "{told}"),
+    match answer_bytes(out, line) {
+        Ok(written) => written,
         Err(LineError::NoCall) => copy_line(out, b"? ", line),
-        Err(LineError::OutOfMemory) => Err(io::Error::from(io::ErrorKind::OutOfMemory)),
     }
 }
 
-// Nothing says that an input ends, so its lines are counted. What no LF ends is no line.
-fn answer_all<R: BufRead, W: Write>(alloc: Global, input: &mut R, out: &mut W) -> io::Result<()> {
-    let mut line = Vec::new(alloc);
-    for _ in 0..u64::MAX {
-        line.clear();
-        input.read_until(b'\n', &mut line)?;
-        let Some(text) = line.strip_suffix(b"\n") else {
-            break;
+// More of a line, as far as there is room.
+fn gather(line: &mut Buffer<KEPT>, part: &[u8]) {
+    let room = KEPT - line.len();
+    line.extend_from_slice(&part[..part.len().min(room)]);
+}
+
+// Answers each line that ends in a piece, as soon as it does.
+fn answer_piece<W: Write>(out: &mut W, line: &mut Buffer<KEPT>, piece: &[u8]) -> io::Result<()> {
+    for part in piece.split_inclusive(|byte| *byte == b'\n') {
+        let Some(end) = part.strip_suffix(b"\n") else {
+            gather(line, part);
+            continue;
         };
-        answer_line(alloc, out, text)?;
+        gather(line, end);
+        answer_line(out, line.as_slice())?;
+        out.flush()?;
+        line.clear();
     }
     Ok(())
 }
 
+// Nothing says that an input ends, so its pieces are counted. What no LF ends is no line. A read that a signal broke off is made again.
+fn answer_all<R: Read, W: Write>(input: &mut R, out: &mut W) -> io::Result<()> {
+    let mut line = Buffer::new();
+    let mut piece = [0; 65536];
+    for _ in 0..u64::MAX {
+        match input.read(&mut piece) {
+            Ok(0) => break,
+            Ok(count) => answer_piece(out, &mut line, &piece[..count])?,
+            Err(error) if error.kind() == io::ErrorKind::Interrupted => {}
+            Err(error) => return Err(error),
+        }
+    }
+    Ok(())
+}
+
+// Nothing is taken from the heap, so that no line is too long for memory.
 fn main(rt: HostRuntime) -> io::Result<()> {
-    let alloc = rt.alloc();
-    let mut input = BufReader::new(alloc, rt.reader())?;
-    // Not buffered: an answer comes with its line.
-    let mut out = io::writer(&rt);
-    answer_all(alloc, &mut input, &mut out)
+    answer_all(&mut rt.reader(), &mut Page::new(io::writer(&rt)))
 }

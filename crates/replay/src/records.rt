@@ -5,10 +5,55 @@ use calls::numerals::{low_byte, low_u16};
 use sacch_encoder::SacchEncoder;
 use sacch_interleaver::SacchDeinterleaver;
 use sacch_receiver::SacchReceiver;
-use std::alloc::{AllocError, Global};
 use std::fmt;
 
 const UNLOCKED: u64 = 256;
+
+// No record has more numbers: a receiver has so many.
+const MOST: usize = 29;
+
+// Numbers of a record, or fields that were sent, up to as many as a record has.
+#[derive(Clone, Copy, Debug, PartialEq, Eq)]
+pub struct Numbers {
+    list: [u64; MOST],
+    length: usize,
+}
+
+impl Numbers {
+    pub fn new() -> Numbers {
+        Numbers {
+            list: [0; MOST],
+            length: 0,
+        }
+    }
+
+    fn as_slice(&self) -> &[u64] {
+        &self.list[..self.length.min(MOST)]
+    }
+
+    pub fn push(&mut self, number: u64) {
+        if self.length < MOST {
+            self.list[self.length] = number;
+            self.length += 1;
+        }
+    }
+
+    pub fn push_list(&mut self, list: &[u16]) {
+        for number in list {
+            self.push(u64::from(*number));
+        }
+    }
+}
+
+// Each behind a space.
+impl fmt::Display for Numbers {
+    fn fmt<W: fmt::Write>(&self, f: &mut fmt::Formatter<W>) -> fmt::Result {
+        for number in self.as_slice() {
+            write!(f, " {number:x}")?;
+        }
+        Ok(())
+    }
+}
 
 // (No `TryFrom` and `From`: none of the types is of this crate.)
 pub trait Record {
@@ -17,7 +62,7 @@ pub trait Record {
     where
         Self: Sized;
 
-    fn write_to(&self, numbers: &mut Vec<u64>) -> Result<(), AllocError>;
+    fn write_to(&self, numbers: &mut Numbers);
 }
 
 // A place in a record. (`as`: std has no `From<usize>` for u64.)
@@ -37,10 +82,6 @@ fn list<const N: usize>(numbers: &[u64]) -> Result<[u16; N], LineError> {
     Ok(list)
 }
 
-fn write_list(list: &[u16], numbers: &mut Vec<u64>) -> Result<(), AllocError> {
-    numbers.extend(list.iter().map(|number| u64::from(*number)))
-}
-
 impl Record for SacchEncoder {
     fn of(numbers: &[u64]) -> Result<SacchEncoder, LineError> {
         let [memory, rows @ .., cursor] = numbers else {
@@ -53,11 +94,10 @@ impl Record for SacchEncoder {
         })
     }
 
-    fn write_to(&self, numbers: &mut Vec<u64>) -> Result<(), AllocError> {
-        numbers.push(u64::from(self.memory))?;
-        write_list(&self.rows, numbers)?;
-        numbers.push(place(self.cursor))?;
-        Ok(())
+    fn write_to(&self, numbers: &mut Numbers) {
+        numbers.push(u64::from(self.memory));
+        numbers.push_list(&self.rows);
+        numbers.push(place(self.cursor));
     }
 }
 
@@ -73,11 +113,10 @@ impl Record for SacchDeinterleaver {
         })
     }
 
-    fn write_to(&self, numbers: &mut Vec<u64>) -> Result<(), AllocError> {
-        write_list(&self.fields, numbers)?;
-        numbers.push(place(self.cursor))?;
-        numbers.push(place(self.received))?;
-        Ok(())
+    fn write_to(&self, numbers: &mut Numbers) {
+        numbers.push_list(&self.fields);
+        numbers.push(place(self.cursor));
+        numbers.push(place(self.received));
     }
 }
 
@@ -107,37 +146,39 @@ impl Record for SacchReceiver {
         })
     }
 
-    fn write_to(&self, numbers: &mut Vec<u64>) -> Result<(), AllocError> {
-        self.deinterleaver.write_to(numbers)?;
-        write_list(&self.rows, numbers)?;
-        numbers.push(place(self.row_cursor))?;
-        numbers.push(place(self.available))?;
-        numbers.push(u64::from(self.phase))?;
-        numbers.push(self.locked_phase.map_or(UNLOCKED, u64::from))?;
-        Ok(())
-    }
-}
-
-// Numbers, each behind a space.
-#[derive(Clone, Copy, Debug, PartialEq, Eq)]
-pub struct Numbers<'a>(pub &'a [u64]);
-
-impl fmt::Display for Numbers<'_> {
-    fn fmt<W: fmt::Write>(&self, f: &mut fmt::Formatter<W>) -> fmt::Result {
-        for number in self.0 {
-            write!(f, " {number:x}")?;
-        }
-        Ok(())
+    fn write_to(&self, numbers: &mut Numbers) {
+        self.deinterleaver.write_to(numbers);
+        numbers.push_list(&self.rows);
+        numbers.push(place(self.row_cursor));
+        numbers.push(place(self.available));
+        numbers.push(u64::from(self.phase));
+        numbers.push(self.locked_phase.map_or(UNLOCKED, u64::from));
     }
 }
 
 // What became of the record that a line has: it is told where it is not as before.
-pub fn became<R: Record>(alloc: Global, before: &[u64], record: &R) -> Result<String, AllocError> {
-    let mut numbers = Vec::new(alloc);
-    record.write_to(&mut numbers)?;
-    if numbers.as_slice() == before {
-        return String::from_str(alloc, "kept");
+#[derive(Clone, Copy, Debug, PartialEq, Eq)]
+pub enum Became {
+    Kept,
+    Now(Numbers),
+}
+
+impl Became {
+    pub fn of<R: Record>(before: &[u64], record: &R) -> Became {
+        let mut numbers = Numbers::new();
+        record.write_to(&mut numbers);
+        if numbers.as_slice() == before {
+            return Became::Kept;
+        }
+        Became::Now(numbers)
     }
-    let numbers = Numbers(&numbers);
-    format!(in alloc; "now{numbers}")
+}
+
+impl fmt::Display for Became {
+    fn fmt<W: fmt::Write>(&self, f: &mut fmt::Formatter<W>) -> fmt::Result {
+        match self {
+            Became::Kept => write!(f, "kept"),
+            Became::Now(numbers) => write!(f, "now{numbers}"),
+        }
+    }
 }

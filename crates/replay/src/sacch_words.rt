@@ -1,6 +1,6 @@
 // SACCH: words, and the records of encoder, deinterleaver and receiver, which are numbers of a line.
 use crate::lent::lent;
-use crate::records::{Numbers, Record, became};
+use crate::records::{Became, Numbers, Record};
 use crate::told::Told;
 use calls::answers::Answer;
 use calls::arguments::Arguments;
@@ -10,7 +10,6 @@ use sacch_decoder::SacchWord;
 use sacch_encoder::SacchEncoder;
 use sacch_interleaver::SacchDeinterleaver;
 use sacch_receiver::{ReceiveOutcome, SacchReceiver};
-use std::alloc::Global;
 
 // (No `From`: neither type is of this crate.)
 fn word(word: SacchWord) -> Answer {
@@ -28,7 +27,7 @@ pub fn run(call: &str, arguments: &mut Arguments) -> Result<Answer, LineError> {
     match (call, numbers, inputs, rooms) {
         ("decode", [dvcc], [coded], []) => {
             Ok(
-                sacch_decoder::decode(coded, low_byte(*dvcc))
+                sacch_decoder::decode(coded.as_slice(), low_byte(*dvcc))
                     .map(word)
                     .into(),
             )
@@ -37,100 +36,82 @@ pub fn run(call: &str, arguments: &mut Arguments) -> Result<Answer, LineError> {
     }
 }
 
-// An answer, and what became of the record.
-fn told<R: Record>(
-    alloc: Global,
-    answer: Answer,
-    before: &[u64],
-    record: &R,
-) -> Result<Told, LineError> {
-    Ok(Told {
+// An answer, and what became of the record. (No room is lent.)
+fn told<R: Record>(answer: Answer, before: &[u64], record: &R) -> Told<'static> {
+    Told {
         answer,
-        record: Some(became(alloc, before, record)?),
-        rooms: Vec::new(alloc),
-    })
+        sent: None,
+        became: Some(Became::of(before, record)),
+        rooms: &[],
+    }
 }
 
 // What an encoder answered, the fields that it sent, and what became of it.
 fn told_sent(
-    alloc: Global,
     answer: Answer,
-    fields: &[u64],
+    fields: &[u16],
     before: &[u64],
     encoder: &SacchEncoder,
-) -> Result<Told, LineError> {
-    let became = became(alloc, before, encoder)?;
-    let fields = Numbers(fields);
-    Ok(Told {
-        answer,
-        record: Some(format!(in alloc; "sent{fields} {became}")?),
-        rooms: Vec::new(alloc),
-    })
+) -> Told<'static> {
+    let mut sent = Numbers::new();
+    sent.push_list(fields);
+    Told {
+        sent: Some(sent),
+        ..told(answer, before, encoder)
+    }
 }
 
 // A refused call sends nothing, which is told as zeros.
-fn encode_bits(alloc: Global, six: u8, before: &[u64]) -> Result<Told, LineError> {
+fn encode_bits(six: u8, before: &[u64]) -> Result<Told<'static>, LineError> {
     let mut encoder = SacchEncoder::of(before)?;
     let sent = encoder.encode_bits(six);
-    let field = sent.unwrap_or(0);
-    told_sent(
-        alloc,
-        sent.map(|_| Answer::Done).into(),
-        &[u64::from(field)],
-        before,
-        &encoder,
-    )
+    let answer = sent.map(|_| Answer::Done).into();
+    Ok(told_sent(answer, &[sent.unwrap_or(0)], before, &encoder))
 }
 
 fn encode_word(
-    alloc: Global,
     continuation: bool,
     message: u64,
     dvcc: u8,
     before: &[u64],
-) -> Result<Told, LineError> {
+) -> Result<Told<'static>, LineError> {
     let mut encoder = SacchEncoder::of(before)?;
     let sent = encoder.encode_word(continuation, message, dvcc);
+    let answer = sent.map(|_| Answer::Done).into();
     let fields = sent.unwrap_or([0; 11]);
-    told_sent(
-        alloc,
-        sent.map(|_| Answer::Done).into(),
-        &fields.map(u64::from),
-        before,
-        &encoder,
-    )
+    Ok(told_sent(answer, &fields, before, &encoder))
 }
 
 // `encode_bits SIX`, `encode_word CONTINUATION MESSAGE DVCC` and `reset`, each before an encoder.
-fn encoder_call(alloc: Global, call: &str, numbers: &[u64]) -> Result<Told, LineError> {
+fn encoder_call(call: &str, numbers: &[u64]) -> Result<Told<'static>, LineError> {
     match (call, numbers) {
-        ("encode_bits", [six, before @ ..]) => encode_bits(alloc, low_byte(*six), before),
+        ("encode_bits", [six, before @ ..]) => encode_bits(low_byte(*six), before),
         ("encode_word", [continuation, message, dvcc, before @ ..]) => {
             let dvcc = low_byte(*dvcc);
-            encode_word(alloc, *continuation != 0, *message, dvcc, before)
+            encode_word(*continuation != 0, *message, dvcc, before)
         }
         ("reset", before) => {
             let mut encoder = SacchEncoder::of(before)?;
             encoder.reset();
-            told(alloc, Answer::Done, before, &encoder)
+            Ok(told(Answer::Done, before, &encoder))
         }
         _ => Err(LineError::NoCall),
     }
 }
 
 // `deinterleave FIELD` and `reset_deinterleaver`, each before a deinterleaver.
-fn deinterleaver_call(alloc: Global, call: &str, numbers: &[u64]) -> Result<Told, LineError> {
+fn deinterleaver_call(call: &str, numbers: &[u64]) -> Result<Told<'static>, LineError> {
     match (call, numbers) {
         ("deinterleave", [field, before @ ..]) => {
             let mut deinterleaver = SacchDeinterleaver::of(before)?;
             let row = deinterleaver.push(low_u16(*field));
             let answer = row.map(|row| row.map_or(Answer::Pending, Answer::Value));
-            told(alloc, answer.into(), before, &deinterleaver)
+            Ok(told(answer.into(), before, &deinterleaver))
         }
         ("reset_deinterleaver", before) => {
             let mut deinterleaver = SacchDeinterleaver::of(before)?;
             deinterleaver.reset();
-            told(alloc, Answer::Done, before, &deinterleaver)
+            Ok(told(Answer::Done, before, &deinterleaver))
         }
         _ => Err(LineError::NoCall),
     }
@@ -146,13 +127,7 @@ fn outcome(outcome: ReceiveOutcome) -> Answer {
 }
 
 // `pushed`, `push_outcome` and `push`.
-fn push(
-    alloc: Global,
-    call: &str,
-    field: u16,
-    dvcc: u8,
-    before: &[u64],
-) -> Result<Told, LineError> {
+fn push(call: &str, field: u16, dvcc: u8, before: &[u64]) -> Result<Told<'static>, LineError> {
     let mut receiver = SacchReceiver::of(before)?;
     let (answer, after) = match call {
         "pushed" => {
@@ -172,38 +147,32 @@ fn push(
         }
         _ => return Err(LineError::NoCall),
     };
-    told(alloc, answer.into(), before, &after)
+    Ok(told(answer.into(), before, &after))
 }
 
 // `pushed FIELD DVCC`, so for `push_outcome` and `push`, and `discontinuity`, each before a receiver.
-fn receiver_call(alloc: Global, call: &str, numbers: &[u64]) -> Result<Told, LineError> {
+fn receiver_call(call: &str, numbers: &[u64]) -> Result<Told<'static>, LineError> {
     match (call, numbers) {
         ("discontinuity", before) => {
             let mut receiver = SacchReceiver::of(before)?;
             receiver.discontinuity();
-            told(alloc, Answer::Done, before, &receiver)
+            Ok(told(Answer::Done, before, &receiver))
         }
-        (_, [field, dvcc, before @ ..]) => {
-            push(alloc, call, low_u16(*field), low_byte(*dvcc), before)
-        }
+        (_, [field, dvcc, before @ ..]) => { push(call, low_u16(*field), low_byte(*dvcc), before) }
         _ => Err(LineError::NoCall),
     }
 }
 
 // The calls over records have numbers alone.
-pub fn over_record(
-    alloc: Global,
-    call: &str,
-    arguments: &mut Arguments,
-) -> Result<Told, LineError> {
+pub fn over_record(call: &str, arguments: &mut Arguments) -> Result<Told<'static>, LineError> {
     let (numbers, inputs, rooms) = arguments.parts();
     let ([], []) = (inputs, rooms) else {
         return Err(LineError::NoCall);
     };
     // Matched here by the record, and below by the arguments.
     match call {
-        "encode_bits" | "encode_word" | "reset" => encoder_call(alloc, call, numbers),
-        "deinterleave" | "reset_deinterleaver" => deinterleaver_call(alloc, call, numbers),
-        _ => receiver_call(alloc, call, numbers),
+        "encode_bits" | "encode_word" | "reset" => encoder_call(call, numbers),
+        "deinterleave" | "reset_deinterleaver" => deinterleaver_call(call, numbers),
+        _ => receiver_call(call, numbers),
     }
 }

@@ -19,18 +19,26 @@ pub fn vselp(call: &str, arguments: &mut Arguments) -> Result<Answer, LineError>
     let (numbers, inputs, rooms) = arguments.parts();
     let answer = match (call, numbers, inputs, rooms) {
         ("encode", [], [class_one, class_two], [frame]) => {
-            speech::encode(class_one, class_two, &mut frame.bytes).into()
+            speech::encode(class_one.as_slice(), class_two.as_slice(), frame.lend()).into()
         }
         ("decode_candidate", [], [frame], [class_one, class_two]) => {
-            speech::decode_candidate(frame, &mut class_one.bytes, &mut class_two.bytes)
+            speech::decode_candidate(frame.as_slice(), class_one.lend(), class_two.lend())
                 .map(candidate)
                 .into()
         }
         ("interleave", [], [previous, current], [slot]) => {
-            speech_interleaver::interleave(previous, current, &mut slot.bytes).into()
+            speech_interleaver::interleave(
+                previous.as_slice(),
+                current.as_slice(),
+                slot.lend(),
+            ).into()
         }
         ("deinterleave", [], [first, second], [frame]) => {
-            speech_interleaver::deinterleave(first, second, &mut frame.bytes).into()
+            speech_interleaver::deinterleave(
+                first.as_slice(),
+                second.as_slice(),
+                frame.lend(),
+            ).into()
         }
         _ => return Err(LineError::NoCall),
     };
@@ -58,15 +66,20 @@ fn mode_of(number: u64) -> Interleaving {
 pub fn acelp(call: &str, arguments: &mut Arguments) -> Result<Answer, LineError> {
     let (numbers, inputs, rooms) = arguments.parts();
     let answer = match (call, numbers, inputs, rooms) {
-        ("encode", [], [speech], [room]) => acelp_cc1::encode(speech, &mut room.bytes).into(),
+        ("encode", [], [speech], [room]) => acelp_cc1::encode(
+            speech.as_slice(),
+            room.lend(),
+        ).into(),
         ("decode", [], [coded], [room]) => {
-            acelp_cc1::decode(coded, &mut room.bytes).map(frame).into()
+            acelp_cc1::decode(coded.as_slice(), room.lend())
+                .map(frame)
+                .into()
         }
         ("interleave", [mode], [history], [slot]) => {
-            acelp_interleaver::interleave(history, mode_of(*mode), &mut slot.bytes).into()
+            acelp_interleaver::interleave(history.as_slice(), mode_of(*mode), slot.lend()).into()
         }
         ("deinterleave", [mode], [slots], [room]) => {
-            acelp_interleaver::deinterleave(slots, mode_of(*mode), &mut room.bytes).into()
+            acelp_interleaver::deinterleave(slots.as_slice(), mode_of(*mode), room.lend()).into()
         }
         _ => return Err(LineError::NoCall),
     };

@@ -62,13 +62,13 @@ pub fn run(call: &str, arguments: &mut Arguments) -> Result<Answer, LineError> {
     let answer = match (call, numbers, inputs, rooms) {
         ("checksum", [dvcc, broadcast], [bits], []) => {
             let dvcc = low_byte(*dvcc);
-            checked(flat_dcch::checksum(bits, dvcc, *broadcast != 0))
+            checked(flat_dcch::checksum(bits.as_slice(), dvcc, *broadcast != 0))
         }
         ("checksum_from", [register], [bits], []) => {
-            checked(flat_coding::checksum_from(low_u16(*register), bits))
+            checked(flat_coding::checksum_from(low_u16(*register), bits.as_slice()))
         }
-        ("checksum7", [], [bits], []) => checked(flat_coding::checksum7(bits)),
-        ("search", [], [coded], [word]) => found(terminated(coded, &mut word.bytes)),
+        ("checksum7", [], [bits], []) => checked(flat_coding::checksum7(bits.as_slice())),
+        ("search", [], [coded], [word]) => found(terminated(coded.as_slice(), word.lend())),
         _ => return Err(LineError::NoCall),
     };
     Ok(answer)

@@ -71,11 +71,7 @@ impl SacchEncoder {
         self.memory = coded.memory;
         self.rows[self.cursor] = coded.row;
         // (No `% 12`: behind tests that are joined by `&` it is a multiplication.)
-        self.cursor = if self.cursor < 11 {
-            self.cursor + 1
-        } else {
-            0
-        };
+        self.cursor = if self.cursor < 11 { self.cursor + 1 } else { 0 };
         coded.row
     }
 

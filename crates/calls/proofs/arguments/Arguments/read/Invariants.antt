@@ -4,4 +4,4 @@ use Rattle.calls.specs.Rooms.{IsUntouched}
 use Rattle.calls.proofs.arguments.Arguments.read.Given as goal
 
 abbrev pub invariant-loop-word : goal.invariant-loop-word
-invariant-loop-word l = All IsUntouched l.arguments.rooms.items
+invariant-loop-word l = All IsUntouched l.arguments.rooms
