@@ -8,7 +8,7 @@ mod totals;
 
 ghost use Rattle.std.specs.Prelude.{◌≡◌, ◌≢◌, ◌++◌, ◌+◌, ◌*◌, ◌≤◌, ◌<◌, ℕ, length, slice_index};
 ghost use Rattle.session.specs.Scanning.{bytes_said, closed, end_said, ended, seen};
-ghost use Rattle.session.specs.Sessions.{at_start, end_text};
+ghost use Rattle.session.specs.Sessions.{Fits, at_start, end_text};
 
 use crate::replies::reply_to;
 pub use crate::totals::Tally;
@@ -56,6 +56,28 @@ impl Session {
             receiver: SacchReceiver::new(),
             tally: Tally::default(),
             counts: [0; 256],
+        }
+    }
+
+    // A session that goes on from anywhere: so many lines may still be read, and this is the line so far, the receiver, the totals and the words of each code.
+    pub fn resumed(
+        left: u32,
+        line: &[u8],
+        receiver: SacchReceiver,
+        tally: Tally,
+        counts: [u32; 256],
+    ) -> Self
+        requires { Fits tally left counts line.now }
+        ensures { result ≡ record { left = left; state = record { receiver = receiver; tally = tally; counts = counts }; part = line.now } }
+    {
+        let mut kept = Buffer::new();
+        kept.extend_from_slice(line);
+        Session {
+            left,
+            line: kept,
+            receiver,
+            tally,
+            counts,
         }
     }
 
