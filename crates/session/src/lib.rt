@@ -6,7 +6,7 @@ mod lent;
 mod replies;
 mod totals;
 
-ghost use Rattle.std.specs.Prelude.{◌≡◌, ◌≢◌, ◌++◌, ◌+◌, ◌*◌, ◌≤◌, ◌<◌, ℕ, length, slice_index};
+ghost use Rattle.std.specs.Prelude.{◌≡◌, ◌≢◌, ◌++◌, ◌+◌, ◌*◌, ◌≤◌, ◌<◌, ℕ, length, get_or, slice_index};
 ghost use Rattle.session.specs.Scanning.{bytes_said, closed, end_said, ended, seen};
 ghost use Rattle.session.specs.Sessions.{Fits, at_start, end_text};
 
@@ -93,6 +93,20 @@ impl Session {
         ensures { result ≡ length self.now.part }
     {
         self.line.len()
+    }
+
+    // The line so far, as much of it as is kept.
+    pub fn line(&self) -> &[u8]
+        ensures { result.now ≡ self.now.part }
+    {
+        self.line.as_slice()
+    }
+
+    // How many words a colour code has.
+    pub fn words(&self, dvcc: u8) -> u32
+        ensures { result ≡ get_or self.now.state.counts dvcc 0 }
+    {
+        self.counts[usize::from(dvcc)]
     }
 
     // The one receiver, as the lines so far leave it.
