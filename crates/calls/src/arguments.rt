@@ -1,8 +1,9 @@
 // The arguments of a line in one of its turns: numbers, then slices that a call reads, then the rooms that it writes.
 mod patterns;
 
-ghost use Rattle.std.specs.Prelude.{◌≡◌, ◌%◌, All, IfOk, OnOk, take};
+ghost use Rattle.std.specs.Prelude.{◌≡◌, ◌%◌, All, IfErr, IfOk, OnOk, take};
 ghost use Rattle.calls.specs.Rooms.{IsUntouched};
+ghost use Rattle.calls.specs.declared.errors.LineError.TheVariants.{NoCall};
 
 use crate::bytes::Bytes;
 use crate::errors::LineError;
@@ -67,7 +68,8 @@ impl Arguments {
     }
 
     pub fn read(words: &str, turn: usize) -> Result<Arguments, LineError>
-        ensures { IfOk result (λ arguments. All IsUntouched arguments.rooms) }
+        ensures untouched { IfOk result (λ arguments. All IsUntouched arguments.rooms) }
+        ensures no_memory { IfErr result (λ error. error ≡ NoCall) }
     {
         let mut arguments = Arguments::new();
         for word in words.split_terminator(' ') {
@@ -111,7 +113,8 @@ impl Arguments {
     // One argument: `:` starts a slice, `_` the length of a room, and anything else is a number.
     fn take(&mut self, word: &str, turn: usize) -> Result<(), LineError>
         requires { All IsUntouched self.old.rooms }
-        ensures { OnOk result (All IsUntouched self.new.rooms) }
+        ensures untouched { OnOk result (All IsUntouched self.new.rooms) }
+        ensures no_memory { IfErr result (λ error. error ≡ NoCall) }
     {
         if let Some(pattern) = word.strip_prefix(':') {
             let slice = Slice::expand(pattern, turn)?;

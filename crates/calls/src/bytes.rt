@@ -36,7 +36,7 @@ impl Bytes {
 
     // One more, which is dropped where there is no room for it.
     #[tactic(auto, using(crate::proofs::Pushed::pushed, crate::proofs::Pushed::not_pushed))]
-    pub(crate) fn push(&mut self, byte: u8)
+    pub fn push(&mut self, byte: u8)
         ensures { held self.new ≡ take 800 (held self.old ++ byte ∷ []) }
     {
         if self.length < LONGEST {
@@ -56,7 +56,7 @@ impl Bytes {
     }
 
     // Another byte at a place, where there is one.
-    pub(crate) fn set(&mut self, place: usize, byte: u8)
+    pub fn set(&mut self, place: usize, byte: u8)
         ensures { held self.new ≡ slice_set (held self.old) place byte }
     {
         if place < self.len() {

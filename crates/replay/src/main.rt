@@ -83,7 +83,8 @@ fn answer_line<W: Write>(out: &mut W, line: &[u8]) -> io::Result<()> {
     }
     match answer_bytes(out, line) {
         Ok(written) => written,
-        Err(LineError::NoCall) => copy_line(out, b"? ", line),
+        // Whichever it is: nothing here asks for memory.
+        Err(_) => copy_line(out, b"? ", line),
     }
 }
 

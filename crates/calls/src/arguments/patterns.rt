@@ -1,5 +1,8 @@
 // Slices as patterns with commas between: `0110` is four bytes, `260x01` is 260 bytes with 0 and 1 in turn, `#ff` is the byte 255. Two patterns have another byte
 // in each turn of a line: `*` is the byte 0 in the first, 1 in the next, up to 255; `260x0@3` is 260 zeros with a 3 at the place of the turn.
+ghost use Rattle.std.specs.Prelude.{◌≡◌, IfErr};
+ghost use Rattle.calls.specs.declared.errors.LineError.TheVariants.{NoCall};
+
 use crate::bytes::Bytes;
 use crate::errors::LineError;
 use crate::numerals::{byte, length};
@@ -21,13 +24,17 @@ struct Run<'a> {
 }
 
 // A hexadecimal digit as a byte.
-fn digit(character: u8) -> Result<u8, LineError> {
+fn digit(character: u8) -> Result<u8, LineError>
+    ensures { IfErr result (λ error. error ≡ NoCall) }
+{
     text::digit(character).ok_or(LineError::NoCall)
 }
 
 impl<'a> Run<'a> {
     // Each digit is read, also where none is written.
-    fn read(run: &'a str) -> Result<Run<'a>, LineError> {
+    fn read(run: &'a str) -> Result<Run<'a>, LineError>
+        ensures { IfErr result (λ error. error ≡ NoCall) }
+    {
         let (count, digits) = match run.split_once('x') {
             Some((count, digits)) => (length(count)?, digits),
             None => (run.len(), run),
@@ -41,7 +48,9 @@ impl<'a> Run<'a> {
 
 impl Slice {
     // The bytes of a slice. Without a pattern it is empty.
-    pub fn expand(patterns: &str, turn: usize) -> Result<Slice, LineError> {
+    pub fn expand(patterns: &str, turn: usize) -> Result<Slice, LineError>
+        ensures { IfErr result (λ error. error ≡ NoCall) }
+    {
         let mut slice = Slice {
             bytes: Bytes::repeated(0, 0),
             turns: None,
@@ -52,7 +61,9 @@ impl Slice {
         Ok(slice)
     }
 
-    fn push(&mut self, pattern: &str, turn: usize) -> Result<(), LineError> {
+    fn push(&mut self, pattern: &str, turn: usize) -> Result<(), LineError>
+        ensures { IfErr result (λ error. error ≡ NoCall) }
+    {
         if pattern.starts_with('*') {
             // `as`: below 256, where `u8::try_from` would have an error that never comes.
             self.bytes.push((turn % 256) as u8);
@@ -76,7 +87,9 @@ impl Slice {
     }
 
     // The digits once, and then what they wrote.
-    fn push_run(&mut self, run: Run<'_>) -> Result<(), LineError> {
+    fn push_run(&mut self, run: Run<'_>) -> Result<(), LineError>
+        ensures { IfErr result (λ error. error ≡ NoCall) }
+    {
         let start = self.bytes.len();
         for character in run.digits.bytes().take(run.count) {
             self.bytes.push(digit(character)?);
