@@ -69,7 +69,7 @@ impl Arguments {
 
     pub fn read(words: &str, turn: usize) -> Result<Arguments, LineError>
         ensures untouched { IfOk result (λ arguments. All IsUntouched arguments.rooms) }
-        ensures no_memory { IfErr result (λ error. error ≡ NoCall) }
+        ensures no_call { IfErr result (λ error. error ≡ NoCall) }
     {
         let mut arguments = Arguments::new();
         for word in words.split_terminator(' ') {
@@ -114,7 +114,7 @@ impl Arguments {
     fn take(&mut self, word: &str, turn: usize) -> Result<(), LineError>
         requires { All IsUntouched self.old.rooms }
         ensures untouched { OnOk result (All IsUntouched self.new.rooms) }
-        ensures no_memory { IfErr result (λ error. error ≡ NoCall) }
+        ensures no_call { IfErr result (λ error. error ≡ NoCall) }
     {
         if let Some(pattern) = word.strip_prefix(':') {
             let slice = Slice::expand(pattern, turn)?;
