@@ -5,6 +5,7 @@ ghost use Rattle.calls.specs.Bytes.{held};
 // No slice is longer.
 pub const LONGEST: usize = 800;
 
+// (`==` compares what stands behind too, which `repeated` leaves full of its byte: what two hold is compared by `as_slice`.)
 #[derive(Clone, Copy, Debug, PartialEq, Eq)]
 pub struct Bytes {
     pub(crate) list: [u8; LONGEST],
@@ -13,7 +14,7 @@ pub struct Bytes {
 
 impl Bytes {
     // So many of one byte, up to as many as there is room for.
-    pub(crate) fn repeated(byte: u8, length: usize) -> Bytes
+    pub fn repeated(byte: u8, length: usize) -> Bytes
         ensures { held result ≡ replicate (min length 800) byte }
     {
         Bytes {

@@ -83,8 +83,8 @@ fn answer_line<W: Write>(out: &mut W, line: &[u8]) -> io::Result<()> {
     }
     match answer_bytes(out, line) {
         Ok(written) => written,
-        // Whichever it is: nothing here asks for memory.
-        Err(_) => copy_line(out, b"? ", line),
+        // (The second never comes: nothing here asks for memory.)
+        Err(LineError::NoCall | LineError::OutOfMemory) => copy_line(out, b"? ", line),
     }
 }
 
